@@ -1,0 +1,52 @@
+-- Document 01, "Text", and demand 3: a text followed line by line, each name looked up when it is needed. No cell, no image.
+-- Assumes nothing.
+use mathlib.Core.List.{List, [], _∷_}
+use Prim.Native.Nat.{ℕ, zero, suc}
+use lib.IntN.{ℤ}
+use Rattle.program.specs.Names.{Name}
+use Rattle.program.specs.Statements.{Statement, E}
+use Rattle.text.specs.Forms.{Line, Blank, Label, Declared, Acts}
+use Rattle.text.specs.Faults.{said, count, makesCell, placeOf, numberOf}
+use Rattle.machine.specs.declared.Machine.{Machine}
+use Rattle.machine.specs.declared.Effect.{Effect}
+use Rattle.machine.specs.Effects.{effect}
+use Rattle.machine.specs.Turn.{startMachine}
+use Rattle.machine.specs.Events.{events}
+use Rattle.machine.specs.Run.{Course, runFrom}
+use Rattle.bench.specs.Running.{ranAs, over}
+use Rattle.bench.specs.declared.Ran.{Ran}
+
+-- Text 9: the statement at a place: the line with so many cell lines before it. Past the last there is none, and a run has ended there.
+unfoldable pub lineAt : List Line → ℕ → Statement Name
+lineAt [] n = E
+lineAt (Blank ∷ xs) n = lineAt xs n
+lineAt (Label w ∷ xs) n = lineAt xs n
+lineAt (Declared w z ∷ xs) n = lineAt xs n
+lineAt (Acts s ∷ xs) zero = s
+lineAt (Acts s ∷ xs) (suc n) = lineAt xs n
+
+-- Variables 3: the start values of the user's variables.
+unfoldable pub starts : List Line → List ℤ
+starts [] = []
+starts (Blank ∷ xs) = starts xs
+starts (Label w ∷ xs) = starts xs
+starts (Declared w z ∷ xs) = z ∷ starts xs
+starts (Acts s ∷ xs) = starts xs
+
+-- Turn 7: what the line at the machine's next place does; a label's place and a variable's number are found by name.
+unfoldable pub lineActs : List Line → Machine → Effect
+lineActs text m = effect (placeOf text) (numberOf text) (m .variables) (m .kept) (m .hold) (lineAt text (m .next))
+
+-- Turn 6, Text 9: the text's own run from its start.
+unfoldable pub linesCourse : List Line → List ℕ → ℕ → Course
+linesCourse text script budget = runFrom (lineActs text) (count makesCell text) budget 0 (events script) (startMachine (starts text))
+
+unfoldable pub textCourse : List ℕ → List ℕ → ℕ → Course
+textCourse text script budget = linesCourse (said text) script budget
+
+-- Events 7, Events 8: its answer, and its records over what a buffer held.
+unfoldable pub followed : List ℕ → List ℕ → ℕ → Ran
+followed text script budget = ranAs (textCourse text script budget)
+
+unfoldable pub followedInto : List ℕ → List ℕ → ℕ → List ℕ → List ℕ
+followedInto text script budget buffer = over (textCourse text script budget) buffer

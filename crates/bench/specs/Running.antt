@@ -1,0 +1,130 @@
+-- Document 01, "Events and records" and "Refusal numbers": the run of an image, and its answer.
+-- Assumes nothing.
+use mathlib.Core.Bool.{Bool, cond}
+use mathlib.Core.List.{List, [], _∷_, _++_}
+use Prim.Native.Nat.{ℕ, _*_, _/_}
+use lib.Dec.{eqb, ltb}
+use lib.IntN.{ℤ, pos}
+use lib.ListN.{length, drop, replicate}
+use Rattle.numbers.specs.Tests.{lowest}
+use Rattle.program.specs.Cells.{statementOf}
+use Rattle.image.specs.Layout.{cellCount, cellAt, startValues}
+use Rattle.image.specs.Check.{checked}
+use Rattle.machine.specs.declared.Machine.{Machine}
+use Rattle.machine.specs.declared.Motion.{Motion}
+use Rattle.machine.specs.declared.Motion.the-variants.{Still, To, Slewing}
+use Rattle.machine.specs.declared.Effect.{Effect}
+use Rattle.machine.specs.Effects.{effect}
+use Rattle.machine.specs.Turn.{startMachine}
+use Rattle.machine.specs.Events.{events, badScript, badEvents, firstBadEvent}
+use Rattle.machine.specs.Run.{Course, runFrom}
+use Rattle.bench.specs.declared.Checked.{Checked}
+use Rattle.bench.specs.declared.State.{State}
+use Rattle.bench.specs.declared.Ran.{Ran}
+
+-- Refusals 11 to 15, Refusals 23: the answer to checking.
+unfoldable pub checkedAs : List ℕ → Checked
+checkedAs s = record { number = checked s }
+
+-- In an image a reference is its number already.
+abbrev pub same : ℕ → ℕ
+same n = n
+
+-- Turn 7: what the statement at the machine's next cell does.
+unfoldable pub cellActs : List ℕ → Machine → Effect
+cellActs s m = effect same same (m .variables) (m .kept) (m .hold) (statementOf (cellAt s (m .next)))
+
+-- Turn 6, Variables 3: the run of an image from its start.
+unfoldable pub imageCourse : List ℕ → List ℕ → ℕ → Course
+imageCourse s script budget = runFrom (cellActs s) (cellCount s) budget 0 (events script) (startMachine (startValues s))
+
+-- Turn 2: the motion's number and value in an answer: 0 still, 1 to a target, 2 slewing.
+unfoldable pub motionNumber : Motion → ℕ
+motionNumber Still = 0
+motionNumber (To z) = 1
+motionNumber (Slewing z) = 2
+
+unfoldable pub motionValue : Motion → ℤ
+motionValue Still = pos 0
+motionValue (To z) = z
+motionValue (Slewing z) = z
+
+-- Events 7: every part of the final state.
+unfoldable pub stateOf : Machine → State
+stateOf m =
+    record {
+      variables = m .variables;
+      next = m .next;
+      places = m .places;
+      kept = m .kept;
+      handler = m .handler;
+      hold = m .hold;
+      motion = motionNumber (m .motion);
+      value = motionValue (m .motion);
+    }
+
+-- Refusals 23: the state of a refused run.
+unfoldable pub noState : State
+noState =
+    record {
+      variables = replicate 64 (pos 0);
+      next = 0;
+      places = replicate 8 0;
+      kept = 0;
+      handler = 0;
+      hold = 0;
+      motion = 0;
+      value = pos 0;
+    }
+
+-- Events 7, Refusals 25: the answer of a run that was not refused; a record has 12 bytes.
+unfoldable pub ranAs : Course → Ran
+ranAs c =
+    record {
+      number = 0;
+      index = 0;
+      reason = c .reason;
+      turns = c .turns;
+      records = length (c .records) / 12;
+      state = stateOf (c .machine);
+    }
+
+unfoldable pub refusedAs : ℕ → ℕ → Ran
+refusedAs number index = record { number = number; index = index; reason = 0; turns = 0; records = 0; state = noState }
+
+-- Refusals 18.
+unfoldable pub bigBudget : ℕ → Bool
+bigBudget budget = ltb 4096 budget
+
+-- Refusals 19: a record buffer of this size is under 12 times the budget.
+unfoldable pub smallRoom : ℕ → ℕ → Bool
+smallRoom budget room = ltb room (12 * budget)
+
+-- The rows 32 to 35.
+unfoldable pub runFaults : List ℕ → ℕ → ℕ → List Bool
+runFaults script budget room = badScript script ∷ badEvents script ∷ bigBudget budget ∷ smallRoom budget room ∷ []
+
+-- Refusals 23: the lowest of 21 to 25 and 32 to 35 that holds; 0 where none does.
+unfoldable pub runRefusal : List ℕ → List ℕ → ℕ → ℕ → ℕ
+runRefusal s script budget room = cond (eqb (checked s) 0) (lowest 32 (runFaults script budget room)) (checked s)
+
+-- Refusals 23: 33 also gives the first such event's index.
+unfoldable pub refusalIndex : ℕ → List ℕ → ℕ
+refusalIndex number script = cond (eqb number 33) (firstBadEvent script) 0
+
+-- Events 7, Refusals 23: the whole answer.
+unfoldable pub ran : List ℕ → List ℕ → ℕ → ℕ → Ran
+ran s script budget room =
+    let course = ranAs (imageCourse s script budget) in
+    let refused = refusedAs (runRefusal s script budget room) (refusalIndex (runRefusal s script budget room) script) in
+    cond (eqb (runRefusal s script budget room) 0) course refused
+
+-- Events 8: the records of a run over what a buffer held.
+unfoldable pub over : Course → List ℕ → List ℕ
+over c buffer = c .records ++ drop (length (c .records)) buffer
+
+-- Events 8, Refusals 24: what the record buffer holds after a run.
+unfoldable pub ranInto : List ℕ → List ℕ → ℕ → List ℕ → List ℕ
+ranInto s script budget buffer =
+    let written = over (imageCourse s script budget) buffer in
+    cond (eqb (runRefusal s script budget (length buffer)) 0) written buffer

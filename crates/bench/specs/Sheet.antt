@@ -1,0 +1,215 @@
+-- Document 01, "Bench sheet": a to l as one table under one statement, by computation.
+-- Assumes nothing.
+use mathlib.Core.Path.{_≡_, refl}
+use mathlib.Core.List.{List, [], _∷_, _++_}
+use Prim.Native.Nat.{ℕ, _*_, _-_}
+use Prim.Native.String.{String}
+use lib.IntN.{ℤ, pos, negsuc}
+use lib.ListN.{length, set, replicate}
+use Rattle.numbers.specs.Bits as Bits
+use Rattle.numbers.specs.Bytes as Bytes
+use Rattle.numbers.specs.Tests as Tests
+use Rattle.program.specs.Cells as Cells
+use Rattle.program.specs.Names as Names
+use Rattle.program.specs.Statements as Statements
+use Rattle.program.specs.Variables as Variables
+use Rattle.text.specs.Faults as Faults
+use Rattle.text.specs.Forms as Forms
+use Rattle.text.specs.Lines as Lines
+use Rattle.text.specs.Tokens as Tokens
+use Rattle.image.specs.Check as Check
+use Rattle.image.specs.Layout as Layout
+use Rattle.machine.specs.Effects as Effects
+use Rattle.machine.specs.Events as Events
+use Rattle.machine.specs.Run as Run
+use Rattle.machine.specs.Turn as Turn
+use Rattle.bench.specs.Following as Following
+use Rattle.bench.specs.Running as Running
+use Rattle.bench.specs.Translating as Translating
+use Rattle.numbers.specs.Bytes.{ascii}
+use Rattle.bench.specs.Translating.{translated, translatedInto}
+use Rattle.bench.specs.Running.{ran, ranInto}
+use Rattle.bench.specs.Following.{followed, followedInto}
+use Rattle.bench.specs.declared.Translated.{Translated}
+use Rattle.bench.specs.declared.State.{State}
+use Rattle.bench.specs.declared.Ran.{Ran}
+
+-- A script of events; each is turn, kind, number, two zeros, value.
+abbrev pub twoArrivals : List ℕ
+twoArrivals = 3 ∷ 0 ∷ 0 ∷ 0 ∷ 2 ∷ 0 ∷ 0 ∷ 0 ∷ 0 ∷ 0 ∷ 0 ∷ 0 ∷ 8 ∷ 0 ∷ 0 ∷ 0 ∷ 2 ∷ 0 ∷ 0 ∷ 0 ∷ 0 ∷ 0 ∷ 0 ∷ 0 ∷ []
+
+-- Bytes, filled with zeros to 16.
+abbrev pub padded : List ℕ → List ℕ
+padded xs = xs ++ replicate (16 - length xs) 0
+
+-- The state at the start of a program without variables of its own, and a state with some variables and the next cell changed.
+abbrev pub start : State
+start =
+    record {
+      variables =
+          pos 0 ∷ pos 0 ∷ pos 0 ∷ pos 0 ∷ pos 0 ∷ pos 0 ∷ pos 1000000 ∷ pos 1000000 ∷ pos 1000 ∷ pos 768000 ∷ replicate 54 (pos 0);
+      next = 0;
+      places = 0 ∷ 0 ∷ 0 ∷ 0 ∷ 0 ∷ 0 ∷ 0 ∷ 0 ∷ [];
+      kept = 0;
+      handler = 65535;
+      hold = 0;
+      motion = 0;
+      value = pos 0;
+    }
+
+abbrev pub variable : ℕ → ℤ → State → State
+variable v z s =
+    record {
+      variables = set (s .variables) v z;
+      next = s .next;
+      places = s .places;
+      kept = s .kept;
+      handler = s .handler;
+      hold = s .hold;
+      motion = s .motion;
+      value = s .value;
+    }
+
+abbrev pub next : ℕ → State → State
+next n s =
+    record {
+      variables = s .variables;
+      next = n;
+      places = s .places;
+      kept = s .kept;
+      handler = s .handler;
+      hold = s .hold;
+      motion = s .motion;
+      value = s .value;
+    }
+
+-- One run of a row: what it is given, and what it must give.
+pub record Trial : Type 0 where
+  pub script : List ℕ
+  pub budget : ℕ
+  pub reason : ℕ
+  pub turns : ℕ
+  pub count : ℕ
+  pub records : List ℕ
+  pub state : State
+
+abbrev pub trial : List ℕ → ℕ → ℕ → ℕ → ℕ → List ℕ → State → Trial
+trial script budget reason turns count records state =
+    record { script = script; budget = budget; reason = reason; turns = turns; count = count; records = records; state = state }
+
+-- One row: a text, what translating it must answer and write, and its runs.
+pub record Row : Type 0 where
+  pub letter : String
+  pub text : List ℕ
+  pub answer : Translated
+  pub image : List ℕ
+  pub trials : List Trial
+
+abbrev pub row : String → List ℕ → Translated → List ℕ → List Trial → Row
+row letter text answer image trials = record { letter = letter; text = text; answer = answer; image = image; trials = trials }
+
+abbrev pub answer : ℕ → ℕ → ℕ → Translated
+answer number line length = record { number = number; line = line; length = length }
+
+abbrev pub ranWith : Trial → Ran
+ranWith t = record { number = 0; index = 0; reason = t .reason; turns = t .turns; records = t .count; state = t .state }
+
+-- A buffer that holds 170 in each byte.
+abbrev pub fresh : ℕ → List ℕ
+fresh n = replicate n 170
+
+abbrev pub feeder : List ℕ
+feeder = ascii "LB AA\nMR 100\nH\nIC R1\nBR AA,R1<2\nPR P\nE\n"
+
+abbrev pub feederImage : List ℕ
+feederImage =
+    padded (0x0C ∷ 0x00 ∷ 0x00 ∷ 0x01 ∷ 0x64 ∷ [])
+    ++ (padded (0x09 ∷ [])
+    ++ (padded (0x03 ∷ 0x01 ∷ [])
+    ++ (padded (0x05 ∷ 0x00 ∷ 0x03 ∷ 0x06 ∷ 0x01 ∷ 0x00 ∷ 0x00 ∷ 0x00 ∷ 0x02 ∷ [])
+    ++ (padded (0x0E ∷ 0x00 ∷ 0x00 ∷ 0x02 ∷ 0x05 ∷ [])
+    ++ (padded (0x08 ∷ [])
+    ++ (0x41 ∷ 0x41 ∷ 0x00 ∷ 0x00
+    ∷ 0x60 ∷ 0x00 ∷ 0x00 ∷ 0x00 ∷ 0x06 ∷ 0x00 ∷ 0x01 ∷ 0x00 ∷ 0x00 ∷ 0x00 ∷ 0x01 ∷ 0x00 ∷ 0x74 ∷ 0x00 ∷ 0x00 ∷ 0x00 ∷ []))))))
+
+abbrev pub feederRecords : List ℕ
+feederRecords =
+    0 ∷ 0 ∷ 0 ∷ 0 ∷ 3 ∷ 0 ∷ 0 ∷ 0 ∷ 100 ∷ 0 ∷ 0 ∷ 0
+    ∷ 6 ∷ 0 ∷ 0 ∷ 0 ∷ 3 ∷ 0 ∷ 0 ∷ 0 ∷ 100 ∷ 0 ∷ 0 ∷ 0
+    ∷ 11 ∷ 0 ∷ 0 ∷ 0 ∷ 5 ∷ 5 ∷ 0 ∷ 0 ∷ 200 ∷ 0 ∷ 0 ∷ 0 ∷ []
+
+-- The trailers of images with no cell, one cell and two, and nothing else.
+abbrev pub trailer0 : List ℕ
+trailer0 = 0 ∷ 0 ∷ 0 ∷ 0 ∷ 0 ∷ 0 ∷ 0 ∷ 0 ∷ 0 ∷ 0 ∷ 1 ∷ 0 ∷ 16 ∷ 0 ∷ 0 ∷ 0 ∷ []
+
+abbrev pub trailer1 : List ℕ
+trailer1 = 16 ∷ 0 ∷ 0 ∷ 0 ∷ 1 ∷ 0 ∷ 0 ∷ 0 ∷ 0 ∷ 0 ∷ 1 ∷ 0 ∷ 32 ∷ 0 ∷ 0 ∷ 0 ∷ []
+
+abbrev pub trailer2 : List ℕ
+trailer2 = 32 ∷ 0 ∷ 0 ∷ 0 ∷ 2 ∷ 0 ∷ 0 ∷ 0 ∷ 0 ∷ 0 ∷ 1 ∷ 0 ∷ 48 ∷ 0 ∷ 0 ∷ 0 ∷ []
+
+-- The state after an error in the first of so many cells.
+abbrev pub erred : ℕ → ℕ → State
+erred error cells = next cells (variable 10 (pos error) (variable 15 (pos 1) start))
+
+-- The sheet.
+abbrev pub sheet : List Row
+sheet =
+    row "a" feeder (answer 0 0 116) feederImage []
+    ∷ row "b" feeder (answer 0 0 116) feederImage
+    (trial twoArrivals 20 1 13 3 feederRecords (next 6 (variable 5 (pos 200) (variable 1 (pos 2) start))) ∷ [])
+    ∷ row "c" feeder (answer 0 0 116) feederImage
+    (trial twoArrivals 12 3 12 3 feederRecords (next 5 (variable 5 (pos 200) (variable 1 (pos 2) start)))
+    ∷ trial twoArrivals 13 1 13 3 feederRecords (next 6 (variable 5 (pos 200) (variable 1 (pos 2) start))) ∷ [])
+    ∷ row "d" [] (answer 0 0 16) trailer0 (trial [] 0 1 0 0 [] start ∷ [])
+    ∷ row "e" (ascii "R1=-7/2") (answer 0 0 32)
+    (0x02 ∷ 0x01 ∷ 0x04 ∷ 0x05 ∷ 0xF9 ∷ 0xFF ∷ 0xFF ∷ 0xFF ∷ 0x02 ∷ 0x00 ∷ 0x00 ∷ 0x00 ∷ 0x00 ∷ 0x00 ∷ 0x00 ∷ 0x00 ∷ trailer1)
+    (trial [] 5 1 1 0 [] (next 1 (variable 1 (negsuc 2) start)) ∷ [])
+    ∷ row "f" (ascii "R1=2147483647^-1") (answer 0 0 32)
+    (0x02 ∷ 0x01 ∷ 0x07 ∷ 0x05 ∷ 0xFF ∷ 0xFF ∷ 0xFF ∷ 0x7F ∷ 0xFF ∷ 0xFF ∷ 0xFF ∷ 0xFF ∷ 0x00 ∷ 0x00 ∷ 0x00 ∷ 0x00 ∷ trailer1)
+    (trial [] 5 1 1 1 (0 ∷ 0 ∷ 0 ∷ 0 ∷ 6 ∷ 0 ∷ 0 ∷ 0 ∷ 101 ∷ 0 ∷ 0 ∷ 0 ∷ []) (erred 101 1) ∷ [])
+    ∷ row "g" (ascii "R1=2147483647\nIC R1") (answer 0 0 48)
+    (padded (0x01 ∷ 0x01 ∷ 0x00 ∷ 0x01 ∷ 0xFF ∷ 0xFF ∷ 0xFF ∷ 0x7F ∷ []) ++ (padded (0x03 ∷ 0x01 ∷ []) ++ trailer2))
+    (trial [] 5 1 2 1 (1 ∷ 0 ∷ 0 ∷ 0 ∷ 6 ∷ 0 ∷ 0 ∷ 0 ∷ 101 ∷ 0 ∷ 0 ∷ 0 ∷ []) (variable 1 (pos 2147483647) (erred 101 2)) ∷ [])
+    ∷ row "h" (ascii "O1=1\nO1=2") (answer 0 0 48)
+    (padded (0x01 ∷ 0x0B ∷ 0x00 ∷ 0x01 ∷ 0x01 ∷ []) ++ (padded (0x01 ∷ 0x0B ∷ 0x00 ∷ 0x01 ∷ 0x02 ∷ []) ++ trailer2))
+    (trial [] 5 1 2 2
+    (0 ∷ 0 ∷ 0 ∷ 0 ∷ 1 ∷ 1 ∷ 0 ∷ 0 ∷ 1 ∷ 0 ∷ 0 ∷ 0 ∷ 1 ∷ 0 ∷ 0 ∷ 0 ∷ 6 ∷ 0 ∷ 0 ∷ 0 ∷ 103 ∷ 0 ∷ 0 ∷ 0 ∷ [])
+    (variable 11 (pos 1) (erred 103 2)) ∷ [])
+    ∷ row "i" (ascii "RT") (answer 0 0 32) (padded (0x07 ∷ []) ++ trailer1)
+    (trial [] 5 1 1 1 (0 ∷ 0 ∷ 0 ∷ 0 ∷ 6 ∷ 0 ∷ 0 ∷ 0 ∷ 105 ∷ 0 ∷ 0 ∷ 0 ∷ []) (erred 105 1) ∷ [])
+    ∷ row "j" (ascii "MV=1") (answer 9 1 0) [] []
+    ∷ row "k" (ascii "R1=5--3") (answer 0 0 32)
+    (0x02 ∷ 0x01 ∷ 0x02 ∷ 0x05 ∷ 0x05 ∷ 0x00 ∷ 0x00 ∷ 0x00 ∷ 0xFD ∷ 0xFF ∷ 0xFF ∷ 0xFF ∷ 0x00 ∷ 0x00 ∷ 0x00 ∷ 0x00 ∷ trailer1)
+    (trial [] 5 1 1 0 [] (next 1 (variable 1 (pos 8) start)) ∷ [])
+    ∷ row "l" (ascii "VI=768000") (answer 0 0 32) (padded (0x01 ∷ 0x08 ∷ 0x00 ∷ 0x01 ∷ 0x00 ∷ 0xB8 ∷ 0x0B ∷ []) ++ trailer1)
+    (trial [] 5 1 1 1 (0 ∷ 0 ∷ 0 ∷ 0 ∷ 6 ∷ 0 ∷ 0 ∷ 0 ∷ 103 ∷ 0 ∷ 0 ∷ 0 ∷ []) (erred 103 1) ∷ [])
+    ∷ row "l" (ascii "VI=767999") (answer 0 0 32) (padded (0x01 ∷ 0x08 ∷ 0x00 ∷ 0x01 ∷ 0xFF ∷ 0xB7 ∷ 0x0B ∷ []) ++ trailer1)
+    (trial [] 5 1 1 0 [] (next 1 (variable 8 (pos 767999) start)) ∷ [])
+    ∷ []
+
+-- A run of the row's image and of its text, each into a buffer of just the size required.
+abbrev pub RunsAs : Row → Trial → Type 0
+RunsAs r t =
+    (ran (r .image) (t .script) (t .budget) (12 * t .budget) ≡ ranWith t)
+    × (ranInto (r .image) (t .script) (t .budget) (fresh (12 * t .budget)) ≡ t .records ++ fresh (12 * t .budget - length (t .records)))
+    × (followed (r .text) (t .script) (t .budget) ≡ ranWith t)
+    × (followedInto (r .text) (t .script) (t .budget) (fresh (12 * t .budget)) ≡ t .records ++ fresh (12 * t .budget - length (t .records)))
+
+abbrev pub Each : {A : Type 0} → (A → Type 0) → List A → Type 0
+Each P [] = Unit {0}
+Each P (x ∷ xs) = P x × Each P xs
+
+-- A row holds: the answer to translating, the whole buffer after it, and each run.
+abbrev pub Holds : Row → Type 0
+Holds r =
+    (translated (r .text) 128 ≡ r .answer)
+    × (translatedInto (r .text) (fresh 128) ≡ r .image ++ fresh (128 - length (r .image)))
+    × Each (RunsAs r) (r .trials)
+
+abbrev pub one : {A : Type 0} → A → A
+one a = a
+
+pub sheet-holds : Each Holds sheet
+unfolding Bits.digits32 Bits.signed32 Bits.eachDigit Bits.on32 Bits.and32 Bits.or32 Bits.xor32 Bytes.bytes Bytes.number Bytes.field Bytes.ascii Tests.eqZ Tests.eqList Tests.all Tests.any Tests.allBelow Tests.anyBelow Tests.firstBelow Tests.listed Tests.numbered Tests.lowest Tests.joined Cells.noTarget Cells.operandOf Cells.jumpOf Cells.cellOf Cells.valueOf Cells.conditionOf Cells.holdOf Cells.statementBy Cells.statementOf Names.letter Names.digit Names.wordCharacter Names.mnemonics Names.variableNames Names.paperVariable Names.reserved Names.twoCharacters Names.userName Statements.compared Statements.operands Statements.writes Statements.targets Variables.rangeOf Variables.present Variables.startVariables Variables.allInputs Variables.mostCells Variables.mostLabels Variables.mostVariables Faults.overlong Faults.longLine Faults.badForm Faults.tooBig Faults.bigValue Faults.bigIn Faults.bigLiteral Faults.declares Faults.reservedName Faults.heard Faults.makesCell Faults.makesLabel Faults.makesVariable Faults.count Faults.declaresIt Faults.repeated Faults.tooMany Faults.firstMakes Faults.unknownVariable Faults.unknownValue Faults.unknownIn Faults.undeclared Faults.readOnlyWritten Faults.faults Faults.said Faults.faultFrom Faults.firstFault Faults.placeOf Faults.rankOf Faults.numberOf Forms.operators Forms.comparisons Forms.digits Forms.decimal Forms.literal Forms.variableName Forms.variable Forms.operand Forms.put Forms.takesWord Forms.takesFirst Forms.takes Forms.fill Forms.forms Forms.byForm Forms.statement Forms.reading Lines.before Lines.lines Tokens.printable Tokens.uncommented Tokens.joins Tokens.longer Tokens.tokens Check.badLength Check.badEdition Check.badTrailer Check.layouts Check.goodWritten Check.goodSelector Check.goodOperand Check.goodTarget Check.fits Check.badCell Check.badCells Check.recordPlace Check.recordName Check.badName Check.badTarget Check.badStart Check.badRecords Check.imageFaults Check.checked Layout.shape Layout.operandNumber Layout.cellBytes Layout.labelBytes Layout.variableBytes Layout.imageLength Layout.trailerBytes Layout.trailerPlace Layout.firstLabelPlace Layout.cellCount Layout.labelCount Layout.variableCount Layout.edition Layout.wholeLength Layout.operandAt Layout.cellAt Layout.labelPlace Layout.labelTarget Layout.variablePlace Layout.startValue Layout.startValues Layout.nameAt Effects.read Effects.storing Effects.storingResult Effects.operate Effects.storingWith Effects.compares Effects.calling Effects.returning Effects.waiting Effects.holding Effects.moving Effects.slewing Effects.value Effects.holds Effects.printing Effects.branching Effects.callingIf Effects.effect Events.eventAt Events.eventCount Events.events Events.input Events.arrivedBy Events.happens Events.goodEvent Events.badScript Events.badEvent Events.badEvents Events.firstBadEvent Events.recordBytes Run.reach Run.runFrom Turn.startMachine Turn.stored Turn.storeRecord Turn.keep Turn.release Turn.lastPlace Turn.movingBit Turn.inMotion Turn.slew Turn.called Turn.returned Turn.held Turn.flagged Turn.failed Turn.turn Following.lineAt Following.starts Following.lineActs Following.linesCourse Following.textCourse Following.followed Following.followedInto Running.checkedAs Running.cellActs Running.imageCourse Running.motionNumber Running.motionValue Running.stateOf Running.noState Running.ranAs Running.refusedAs Running.bigBudget Running.smallRoom Running.runFaults Running.runRefusal Running.refusalIndex Running.ran Running.over Running.ranInto Translating.cellPart Translating.labelPart Translating.variablePart Translating.imageOf Translating.image Translating.accepted Translating.tooShort Translating.translated Translating.translatedInto
+sheet-holds = ((refl, refl, tt), ((refl, refl, ((refl, refl, refl, refl), tt)), ((refl, refl, ((refl, refl, refl, refl), ((refl, refl, refl, refl), tt))), ((refl, refl, ((refl, refl, refl, refl), tt)), ((refl, refl, ((refl, refl, refl, refl), tt)), ((refl, refl, ((refl, refl, refl, refl), tt)), ((refl, refl, ((refl, refl, refl, refl), tt)), ((refl, refl, ((refl, refl, refl, refl), tt)), ((refl, refl, ((refl, refl, refl, refl), tt)), ((refl, refl, tt), ((refl, refl, ((refl, refl, refl, refl), tt)), ((refl, refl, ((refl, refl, refl, refl), tt)), ((refl, refl, ((refl, refl, refl, refl), tt)), tt)))))))))))))

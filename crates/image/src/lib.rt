@@ -1,0 +1,1 @@
+// An image: cells, label records, variable records and trailer, as bytes.

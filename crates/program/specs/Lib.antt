@@ -1,0 +1,4 @@
+pub mod Names
+pub mod Variables
+pub mod Statements
+pub mod Cells

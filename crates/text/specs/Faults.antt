@@ -1,0 +1,177 @@
+-- Document 01, "Refusal numbers": the faults of a text, one test for each row of the table.
+-- Assumes nothing.
+use mathlib.Core.Bool.{Bool, true, false, cond, _&&_, _||_, not}
+use mathlib.Core.List.{List, [], _∷_, _++_, map}
+use mathlib.Core.Option.{Option, none, some}
+use Prim.Native.Nat.{ℕ, zero, suc, _+_, _-_}
+use lib.Dec.{eqb, leb, ltb}
+use lib.IntN.{ℤ}
+use lib.ListN.{length, take, getD}
+use Rattle.numbers.specs.Tests.{eqList, any, lowest}
+use Rattle.program.specs.Names.{Name, reserved, paperVariable}
+use Rattle.program.specs.Variables.{inRange, literals, readOnly, mostCells, mostLabels, mostVariables}
+use Rattle.program.specs.Statements.{Value, Literal, Variable, Statement, operands, writes, targets}
+use Rattle.text.specs.Lines.{lines}
+use Rattle.text.specs.Forms.{Line, Blank, Label, Declared, Acts, reading}
+use Rattle.text.specs.declared.Fault.{Fault}
+
+-- Refusals 1, Text 1.
+unfoldable pub overlong : List ℕ → Bool
+overlong text = ltb 16384 (length text)
+
+-- Refusals 2, Text 4: a line over 64 bytes.
+unfoldable pub longLine : List ℕ → Bool
+longLine l = ltb 64 (length l)
+
+-- Refusals 3, Text 10, Text 11: a bad byte or form.
+unfoldable pub badForm : List ℕ → Bool
+badForm l = elim (reading l) [ none ↦ true | some x ↦ false ]
+
+unfoldable pub tooBig : ℤ → Bool
+tooBig z = not (inRange literals z)
+
+unfoldable pub bigValue : Value Name → Bool
+bigValue (Literal z) = tooBig z
+bigValue (Variable v) = false
+
+unfoldable pub bigIn : Line → Bool
+bigIn Blank = false
+bigIn (Label w) = false
+bigIn (Declared w z) = tooBig z
+bigIn (Acts s) = any bigValue (operands s)
+
+-- Refusals 4, Text 13: a literal outside its range.
+unfoldable pub bigLiteral : List ℕ → Bool
+bigLiteral l = elim (reading l) [ none ↦ false | some x ↦ bigIn x ]
+
+-- The name that a line declares, as a label or as a variable.
+unfoldable pub declares : Line → List Name
+declares Blank = []
+declares (Label w) = w ∷ []
+declares (Declared w z) = w ∷ []
+declares (Acts s) = []
+
+-- Refusals 5, Text 12: LB or VA of a reserved name.
+unfoldable pub reservedName : List ℕ → Bool
+reservedName l = elim (reading l) [ none ↦ false | some x ↦ any reserved (declares x) ]
+
+-- Refusals 21: what a line says to others: nothing where it has one of the faults 2 to 5.
+unfoldable pub heard : List ℕ → Line
+heard l =
+    cond (longLine l || (badForm l || (bigLiteral l || reservedName l))) Blank
+    (elim (reading l) [ none ↦ Blank | some x ↦ x ])
+
+-- What a line makes.
+unfoldable pub makesCell : Line → Bool
+makesCell Blank = false
+makesCell (Label w) = false
+makesCell (Declared w z) = false
+makesCell (Acts s) = true
+
+unfoldable pub makesLabel : Line → Bool
+makesLabel Blank = false
+makesLabel (Label w) = true
+makesLabel (Declared w z) = false
+makesLabel (Acts s) = false
+
+unfoldable pub makesVariable : Line → Bool
+makesVariable Blank = false
+makesVariable (Label w) = false
+makesVariable (Declared w z) = true
+makesVariable (Acts s) = false
+
+-- How many of the lines pass the test.
+unfoldable pub count : (Line → Bool) → List Line → ℕ
+count p [] = 0
+count p (x ∷ xs) = let n = count p xs in cond (p x) (suc n) n
+
+unfoldable pub declaresIt : Name → Line → Bool
+declaresIt w x = any (eqList w) (declares x)
+
+-- Refusals 6: a name that a line before declares.
+unfoldable pub repeated : List Line → Line → Bool
+repeated before x = any (λ w. any (declaresIt w) before) (declares x)
+
+-- Refusals 7, Variables 5: a cell, label or variable too many.
+unfoldable pub tooMany : List Line → Line → Bool
+tooMany before x =
+    (makesCell x && leb mostCells (count makesCell before))
+    || ((makesLabel x && leb mostLabels (count makesLabel before))
+    || (makesVariable x && leb mostVariables (count makesVariable before)))
+
+-- Refusals 8: the first line that declares the name makes what is asked for.
+unfoldable pub firstMakes : (Line → Bool) → Name → List Line → Bool
+firstMakes p w [] = false
+firstMakes p w (x ∷ xs) = let more = firstMakes p w xs in cond (declaresIt w x) (p x) more
+
+unfoldable pub unknownVariable : List Line → Name → Bool
+unknownVariable text v = eqb (paperVariable v) 0 && not (firstMakes makesVariable v text)
+
+unfoldable pub unknownValue : List Line → Value Name → Bool
+unknownValue text (Literal z) = false
+unknownValue text (Variable v) = unknownVariable text v
+
+unfoldable pub unknownIn : List Line → Statement Name → Bool
+unknownIn text s =
+    any (λ n. not (firstMakes makesLabel n text)) (targets s)
+    || (any (unknownVariable text) (writes s) || any (unknownValue text) (operands s))
+
+-- Refusals 8: a name that is not declared, or first declared as the other kind.
+unfoldable pub undeclared : List Line → Line → Bool
+undeclared text Blank = false
+undeclared text (Label w) = false
+undeclared text (Declared w z) = false
+undeclared text (Acts s) = unknownIn text s
+
+-- Refusals 9: a read-only variable written.
+unfoldable pub readOnlyWritten : Line → Bool
+readOnlyWritten Blank = false
+readOnlyWritten (Label w) = false
+readOnlyWritten (Declared w z) = false
+readOnlyWritten (Acts s) = any (λ v. readOnly (paperVariable v)) (writes s)
+
+-- The rows 2 to 9 for a line l of a text, with what the whole text says and what the lines before l say.
+unfoldable pub faults : List Line → List Line → List ℕ → List Bool
+faults text before l =
+    longLine l ∷ badForm l ∷ bigLiteral l ∷ reservedName l
+    ∷ repeated before (heard l) ∷ tooMany before (heard l) ∷ undeclared text (heard l) ∷ readOnlyWritten (heard l) ∷ []
+
+-- What the lines of a text say.
+unfoldable pub said : List ℕ → List Line
+said text = map heard (lines text)
+
+-- Refusals 2 to 9: whether line l of the text, from 1, has fault n.
+unfoldable pub hasFault : ℕ → ℕ → List ℕ → Bool
+hasFault n l text = leb 2 n && (leb 1 l && (leb l (length (lines text)) && getD (faults (said text) (take (l - 1) (said text)) (getD (lines text) (l - 1) [])) (n - 2) false))
+
+abbrev pub fault : ℕ → ℕ → Fault
+fault number line = record { number = number; line = line }
+
+-- Refusals 20: the first faulty line with its lowest number, from the line with this number on.
+unfoldable pub faultFrom : List Line → ℕ → List Line → List (List ℕ) → Fault
+faultFrom text line before [] = fault 0 0
+faultFrom text line before (l ∷ ls) =
+    let n = lowest 2 (faults text before l) in
+    let more = faultFrom text (suc line) (before ++ (heard l ∷ [])) ls in
+    cond (eqb n 0) more (fault n line)
+
+unfoldable pub firstFault : List ℕ → Fault
+firstFault text = faultFrom (said text) 1 [] (lines text)
+
+-- Text 9, Image 9: the place of a label is the number of cell lines before the line that declares it.
+unfoldable pub placeOf : List Line → Name → ℕ
+placeOf [] w = 0
+placeOf (x ∷ xs) w =
+    let more = placeOf xs w in
+    cond (declaresIt w x) 0 (cond (makesCell x) (suc more) more)
+
+-- Variables 1: among the user's variables, how many stand before this one.
+unfoldable pub rankOf : List Line → Name → ℕ
+rankOf [] w = 0
+rankOf (x ∷ xs) w =
+    let more = rankOf xs w in
+    cond (declaresIt w x) 0 (cond (makesVariable x) (suc more) more)
+
+-- Variables 1: the number of a variable, the paper's or the user's.
+unfoldable pub numberOf : List Line → Name → ℕ
+numberOf text w = cond (eqb (paperVariable w) 0) (32 + rankOf text w) (paperVariable w)
