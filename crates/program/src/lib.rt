@@ -1,6 +1,6 @@
 // What a text, an image and a machine have in common: variables, operands and cells.
 ghost use mathlib.Core.Path.{_≡_};
-ghost use Rattle.program.specs.Variables.{inRange, rangeOf, literals, readOnly};
+ghost use Rattle.program.specs.Variables.{inRange, rangeOf, literals, readOnly, present};
 ghost use Rattle.program.specs.Cells.{holdRange, slewRange};
 
 // A lowest and a highest value. 64 bits, so that one less than a velocity and one more than it are values too.
@@ -22,7 +22,7 @@ pub enum Operand {
 // One statement of a program, names turned into numbers. A field that the operation does not use is 0 or Nothing.
 pub struct Cell {
     pub operation: u8,
-    pub written: u8,
+    pub written: u16,
     pub selector: u8,
     pub left: Operand,
     pub right: Operand,
@@ -71,6 +71,9 @@ impl Variable {
     pub const HIGHEST_VELOCITY: i64 = 2560000;
 
     pub const ALL_INPUTS: i64 = 15;
+
+    // The most variables of the user's.
+    pub const MOST_USERS: u16 = 32;
 
     // The range of a literal, and so of R, P and a user's variable.
     pub fn literals() -> Range
@@ -135,6 +138,14 @@ impl Variable {
     {
         (Self::MV <= self.0) & (self.0 <= Self::IN)
     }
+
+    // With so many variables of the user's, there is a variable with this number.
+    pub fn is_present(self, users: u16) -> bool
+        ensures { λ r. ⌜ r ≡ present users (self .0) ⌝ }
+    {
+        ((Self::R1 <= self.0) & (self.0 <= Self::IN))
+            | ((Self::FIRST_USER <= self.0) & (self.0 < Self::FIRST_USER + (users as u32)))
+    }
 }
 
 impl Cell {
@@ -191,6 +202,11 @@ impl Cell {
     pub const GREATER: u8 = 5;
 
     pub const AT_LEAST: u8 = 6;
+
+    // The most cells and labels of a program.
+    pub const MOST: u16 = 256;
+
+    pub const MOST_LABELS: u16 = 160;
 
     // The target of `OE 0`, and a machine's handler where it has none.
     pub const NO_HANDLER: u16 = 65535;
