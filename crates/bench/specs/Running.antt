@@ -7,7 +7,7 @@ use lib.Dec.{eqb, ltb}
 use lib.IntN.{ℤ, pos}
 use lib.ListN.{length, drop, replicate}
 use Rattle.numbers.specs.Tests.{lowest}
-use Rattle.program.specs.Cells.{statementOf}
+use Rattle.program.specs.Cells.{same, statementOf}
 use Rattle.image.specs.Layout.{cellCount, cellAt, startValues}
 use Rattle.image.specs.Check.{checked}
 use Rattle.machine.specs.declared.Machine.{Machine}
@@ -25,10 +25,6 @@ use Rattle.bench.specs.declared.Ran.{Ran}
 -- Refusals 11 to 15, Refusals 23: the answer to checking.
 unfoldable pub checkedAs : List ℕ → Checked
 checkedAs s = record { number = checked s }
-
--- In an image a reference is its number already.
-abbrev pub same : ℕ → ℕ
-same n = n
 
 -- Turn 7: what the statement at the machine's next cell does.
 unfoldable pub cellActs : List ℕ → Machine → Effect
