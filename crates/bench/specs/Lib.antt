@@ -3,3 +3,4 @@ pub mod Running
 pub mod Following
 pub mod Listing
 pub mod Sheet
+pub mod Code

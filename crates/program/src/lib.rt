@@ -3,6 +3,8 @@ ghost use mathlib.Core.Path.{_≡_};
 ghost use Rattle.program.specs.Variables.{inRange, rangeOf, literals, readOnly, present};
 ghost use Rattle.program.specs.Cells.{holdRange, slewRange};
 
+pub mod names;
+
 // A lowest and a highest value. 64 bits, so that one less than a velocity and one more than it are values too.
 pub struct Range {
     pub lowest: i64,
