@@ -1,0 +1,3 @@
+pub mod Finding
+pub mod Cells
+pub mod Lines
