@@ -1,5 +1,4 @@
 pub mod Effects
 pub mod Turn
-pub mod Rules
 pub mod Events
 pub mod Run

@@ -1,0 +1,1 @@
+// The text of an image: definitions and theorems, no code.
