@@ -1,0 +1,70 @@
+-- Laws of a search: over the numbers below a bound, and over a list.
+-- Assumes nothing.
+use mathlib.Core.Path.{_≡_, refl, sym, ap, _∙_}
+use mathlib.Core.Bool.{Bool, true, false, _||_, not}
+use mathlib.Core.List.{List}
+use mathlib.Core.Logic.{⊎-elim}
+use Prim.Native.Nat.{ℕ, zero, suc, _+_, _≤_, _<_}
+use native.Mathlib.Numerals.{add-one}
+use native.Mathlib.Nat.{eq-or-lt-of-le, le-of-suc-le-suc}
+use native.Mathlib.Omega.{arith}
+use borrow.Author.Tests.{not-true, not-false}
+use lib.ListN.{length, getD, drop}
+use lib.Seq.{drop-cons}
+use Rattle.numbers.specs.Tests.{any, anyBelow}
+
+or-true : (b : Bool) → (b || true) ≡ true
+or-true true = refl
+or-true false = refl
+
+pub or-assoc : (a b c : Bool) → ((a || b) || c) ≡ (a || (b || c))
+or-assoc true b c = refl
+or-assoc false b c = refl
+
+-- What `if !t` tells of the test t that a call answered.
+pub told-false : {t b : Bool} → t ≡ b → not t ≡ true → b ≡ false
+told-false {t} e f = sym e ∙ not-true t f
+
+pub told-true : {t b : Bool} → t ≡ b → not t ≡ false → b ≡ true
+told-true {t} e f = sym e ∙ not-false t f
+
+-- A search over the numbers k below n: none yet; one more without; one that is; all without. What a turn looked at is r.
+pub none-yet : (p : ℕ → Bool) → anyBelow 0 p ≡ false
+unfolding anyBelow
+none-yet p = refl
+
+module _ (p : ℕ → Bool) (k : ℕ) where
+  pub one-more : {r : Bool} → anyBelow k p ≡ false → r ≡ p k → r ≡ false → anyBelow (k + 1) p ≡ false
+  unfolding anyBelow
+  one-more h e f = rw (add-one k, h, ← e) f
+
+  hit : (n : ℕ) → k < n → p k ≡ true → anyBelow n p ≡ true
+  unfolding anyBelow
+  hit zero l e = absurd (omega arith)
+  hit (suc n) l e =
+      ⊎-elim
+      (λ (q : k ≡ n). rw (← q, e) (or-true (anyBelow k p)))
+      (λ (q : k < n). rw (hit n q e))
+      (eq-or-lt-of-le (le-of-suc-le-suc l))
+
+  pub that-is : {r : Bool} {n m : ℕ} → n ≡ m → k < n → r ≡ p k → r ≡ true → true ≡ anyBelow m p
+  that-is {n = n} q l e f = rw (← q) (sym (hit n l (sym e ∙ f)))
+
+  pub all-without : {n m : ℕ} → n ≡ m → k ≤ n → n ≤ k → anyBelow k p ≡ false → false ≡ anyBelow m p
+  all-without {m = m} q l l′ h = let e : k ≡ m = omega arith in sym h ∙ ap (λ (j : ℕ). anyBelow j p) e
+
+-- Two searches that look at the same.
+pub same-search : (n : ℕ) {p q : ℕ → Bool} → ((k : ℕ) → k < n → p k ≡ q k) → anyBelow n p ≡ anyBelow n q
+unfolding anyBelow
+same-search zero f = refl
+same-search (suc n) f = rw (same-search n (λ k h. f k (omega arith)), f n (omega arith))
+
+-- A search over a list from the element i on.
+module _ {A : Type 0} (p : A → Bool) (l : List A) (i : ℕ) (d : A) (h : i < length l) where
+  pub past-one : {r : Bool} → r ≡ p (getD l i d) → r ≡ false → any p (drop (i + 1) l) ≡ any p (drop i l)
+  unfolding any
+  past-one e f = rw (add-one i, drop-cons l i d h, ← e, f)
+
+  pub at-one : {r : Bool} → r ≡ p (getD l i d) → r ≡ true → true ≡ any p (drop i l)
+  unfolding any
+  at-one e f = rw (drop-cons l i d h, ← e, f)

@@ -1,0 +1,4 @@
+pub mod Laws
+pub mod Any
+pub mod Records
+pub mod Back

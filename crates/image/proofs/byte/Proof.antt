@@ -1,0 +1,20 @@
+-- `byte` meets its contract: a field of one byte is that byte, and past the end stands 0.
+-- Assumes nothing.
+use mathlib.Core.Path.{sym, _∙_}
+use borrow.Author.Needs.{needs}
+use lib.ListN.{List·getD-eq-default}
+use Rattle.image.proofs.Laws.{field-one}
+use Rattle.image.proofs.byte.Statement.{statement}
+use Rattle.image.proofs.byte.Tie as tie
+
+returns : tie.Need-returns
+returns c = sym (field-one _ _ ∙ List·getD-eq-default (c .before .args .s .now) 0 (c .if1 .taken))
+
+shared-slice-read-result : tie.Need-shared-slice-read-result
+shared-slice-read-result c = search needs
+
+returns-2 : tie.Need-returns-2
+returns-2 c = sym (field-one _ _)
+
+pub byte-spec : {M : Type 1} → statement M
+byte-spec = tie.close (tie.spec returns shared-slice-read-result returns-2)

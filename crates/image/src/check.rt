@@ -1,0 +1,385 @@
+// What makes an image bad: one test for each row of the refusals.
+ghost use mathlib.Core.Path.{_≡_};
+ghost use mathlib.Core.Bool.{false};
+ghost use Prim.Native.Nat.{_+_};
+ghost use Rattle.numbers.specs.Tests.{any, anyBelow};
+ghost use Rattle.image.specs.Layout.{labelCount, variableCount};
+ghost use Rattle.image.specs.Check.{badLength, badEdition, badTrailer, layouts, goodWritten, goodSelector, goodOperand, goodTarget, badCell, badCells, badName, badTarget, badStart, badRecords, checked};
+ghost use Rattle.image.specs.Code.{useOf, fieldsAt, fitsOf, recordPlaceOf, keyOf, repeatedKey, targetOf, labelled, badKey, badTargetOf, literalBits, badStartOf};
+use program::Cell;
+use program::Variable;
+
+// The refusals of an image.
+const BAD_LENGTH: u8 = 21;
+
+const BAD_EDITION: u8 = 22;
+
+const BAD_TRAILER: u8 = 23;
+
+const BAD_CELLS: u8 = 24;
+
+const BAD_RECORDS: u8 = 25;
+
+// The length of an image with as many cells, labels and variables as there may be.
+const LONGEST: usize = crate::CELL_BYTES * (Cell::MOST as usize)
+    + crate::LABEL_BYTES * (Cell::MOST_LABELS as usize)
+    + crate::VARIABLE_BYTES * (Variable::MOST_USERS as usize)
+    + crate::TRAILER_BYTES;
+
+// The fields of a cell as they stand.
+struct Fields {
+    operation: u8,
+    written: u8,
+    selector: u8,
+    shapes: u8,
+    left: u32,
+    right: u32,
+    target: u16,
+    zeros: u16,
+}
+
+// The fields that an operation may use together: the operation; whether it writes a variable; its last operator or
+// comparison, 0 where it has none; whether it has a left operand, a right operand and a target.
+struct Layout(u8, bool, u8, bool, bool, bool);
+
+const ROWS: usize = 17;
+
+const LAYOUTS: [Layout; ROWS] = [
+    Layout(Cell::SET, true, 0, true, false, false),
+    Layout(Cell::SET_WITH, true, Cell::XOR, true, true, false),
+    Layout(Cell::IC, true, 0, false, false, false),
+    Layout(Cell::DC, true, 0, false, false, false),
+    Layout(Cell::BR, false, 0, false, false, true),
+    Layout(Cell::BR, false, Cell::AT_LEAST, true, true, true),
+    Layout(Cell::CL, false, 0, false, false, true),
+    Layout(Cell::CL, false, Cell::AT_LEAST, true, true, true),
+    Layout(Cell::RT, false, 0, false, false, false),
+    Layout(Cell::E, false, 0, false, false, false),
+    Layout(Cell::H, false, 0, false, false, false),
+    Layout(Cell::H, false, 0, true, false, false),
+    Layout(Cell::OE, false, 0, false, false, true),
+    Layout(Cell::MA, false, 0, true, false, false),
+    Layout(Cell::MR, false, 0, true, false, false),
+    Layout(Cell::SL, false, 0, true, false, false),
+    Layout(Cell::PR, false, 0, true, false, false),
+];
+
+fn bad_length(s: &[u8]) -> bool
+    ensures { λ r. ⌜ r ≡ badLength (now (s .entry)) ⌝ }
+{
+    (s.len() < crate::TRAILER_BYTES) | (LONGEST < s.len())
+}
+
+fn bad_edition(s: &[u8]) -> bool
+    ensures { λ r. ⌜ r ≡ badEdition (now (s .entry)) ⌝ }
+{
+    crate::edition(s) != crate::THIS_EDITION
+}
+
+// The trailer's place, counts and whole length against each other, the image's length and the limits.
+fn bad_trailer(s: &[u8]) -> bool
+    ensures { λ r. ⌜ r ≡ badTrailer (now (s .entry)) ⌝ }
+{
+    let cells = crate::cell_count(s);
+    let labels = crate::label_count(s);
+    let variables = crate::variable_count(s);
+    let place = crate::first_label_place(s) as usize;
+    let whole = crate::whole_length(s) as usize;
+    (place != crate::CELL_BYTES * (cells as usize))
+        | (whole != s.len())
+        | (crate::image_length(cells, labels, variables) != s.len())
+        | (Cell::MOST < cells)
+        | (Cell::MOST_LABELS < labels)
+        | (Variable::MOST_USERS < variables)
+}
+
+// The variable written is there and not read-only; unused, it is 0.
+fn good_written(variables: u16, used: bool, v: u8) -> bool
+    ensures { λ r. ⌜ r ≡ goodWritten variables used v ⌝ }
+{
+    if used {
+        let variable = Variable(v as u32);
+        return variable.is_present(variables) & !variable.is_read_only();
+    }
+    v == 0
+}
+
+// An operator or a comparison up to the last; unused, it is 0.
+fn good_selector(last: u8, n: u8) -> bool
+    ensures { λ r. ⌜ r ≡ goodSelector last n ⌝ }
+{
+    if last == 0 {
+        return n == 0;
+    }
+    (1 <= n) & (n <= last)
+}
+
+fn is_literal(n: u32) -> bool
+    ensures { λ r. ⌜ r ≡ literalBits n ⌝ }
+{
+    Variable::literals().holds(numbers::signed(n) as i64)
+}
+
+// A literal in its range or a variable that is there; unused, shape and number are 0.
+fn good_operand(variables: u16, used: bool, shape: u8, n: u32) -> bool
+    ensures { λ r. ⌜ r ≡ goodOperand variables used shape n ⌝ }
+{
+    if used {
+        return ((shape == crate::LITERAL) & is_literal(n))
+            | ((shape == crate::VARIABLE) & Variable(n).is_present(variables));
+    }
+    (shape == 0) & (n == 0)
+}
+
+// The target of a label record, in an image of so many cells.
+fn target_at(s: &[u8], cells: u16, k: u16) -> u16
+    ensures { λ r. ⌜ r ≡ targetOf cells (now (s .entry)) k ⌝ }
+{
+    numbers::read2(s, crate::label_place(cells, k) + crate::LABEL_TARGET)
+}
+
+fn is_label_target(s: &[u8], target: u16) -> bool
+    ensures { λ r. ⌜ r ≡ labelled (now (s .entry)) target ⌝ }
+{
+    let cells = crate::cell_count(s);
+    let labels = crate::label_count(s);
+    let mut k: u16 = 0;
+    while k < labels {
+        if target_at(s, cells, k) == target {
+            return true;
+        }
+        k += 1;
+    }
+    false
+}
+
+// A label record has the target, or it is that of `OE 0`; unused, it is 0.
+fn good_target(s: &[u8], operation: u8, used: bool, target: u16) -> bool
+    ensures { λ r. ⌜ r ≡ goodTarget (now (s .entry)) operation used target ⌝ }
+{
+    if !used {
+        return target == 0;
+    }
+    if (operation == Cell::OE) & (target == Cell::NO_HANDLER) {
+        return true;
+    }
+    is_label_target(s, target)
+}
+
+fn fields_at(s: &[u8], k: u16) -> Fields
+    ensures { λ r. ⌜ r ≡ fieldsAt (now (s .entry)) k ⌝ }
+{
+    let place = crate::CELL_BYTES * (k as usize);
+    Fields {
+        operation: crate::byte(s, place),
+        written: crate::byte(s, place + crate::WRITTEN),
+        selector: crate::byte(s, place + crate::SELECTOR),
+        shapes: crate::byte(s, place + crate::SHAPES),
+        left: numbers::read4(s, place + crate::LEFT),
+        right: numbers::read4(s, place + crate::RIGHT),
+        target: numbers::read2(s, place + crate::TARGET),
+        zeros: numbers::read2(s, place + crate::ZEROS),
+    }
+}
+
+// A cell has just the fields of a layout.
+fn fits(s: &[u8], variables: u16, f: Fields, u: Layout) -> bool
+    ensures { λ r. ⌜ r ≡ fitsOf (now (s .entry)) variables f (useOf u) ⌝ }
+{
+    if f.operation != u.0 {
+        return false;
+    }
+    if !good_written(variables, u.1, f.written) {
+        return false;
+    }
+    if !good_selector(u.2, f.selector) {
+        return false;
+    }
+    if !good_operand(variables, u.3, f.shapes % crate::RIGHT_SHAPE, f.left) {
+        return false;
+    }
+    if !good_operand(variables, u.4, f.shapes / crate::RIGHT_SHAPE, f.right) {
+        return false;
+    }
+    good_target(s, u.0, u.5, f.target) & (f.zeros == 0)
+}
+
+fn has_layout(s: &[u8], f: Fields) -> bool
+    ensures { λ r. ⌜ r ≡ any (fitsOf (now (s .entry)) (variableCount (now (s .entry))) f) layouts ⌝ }
+{
+    let variables = crate::variable_count(s);
+    let table = LAYOUTS;
+    let mut i: usize = 0;
+    while i < ROWS {
+        if fits(s, variables, f, table[i]) {
+            return true;
+        }
+        i += 1;
+    }
+    false
+}
+
+fn bad_cell(s: &[u8], k: u16) -> bool
+    ensures { λ r. ⌜ r ≡ badCell (now (s .entry)) k ⌝ }
+{
+    !has_layout(s, fields_at(s, k))
+}
+
+fn bad_cells(s: &[u8]) -> bool
+    ensures { λ r. ⌜ r ≡ badCells (now (s .entry)) ⌝ }
+{
+    let cells = crate::cell_count(s);
+    let mut k: u16 = 0;
+    while k < cells {
+        if bad_cell(s, k) {
+            return true;
+        }
+        k += 1;
+    }
+    false
+}
+
+// Where a name record stands, the labels' first.
+fn record_place(cells: u16, labels: u16, k: u16) -> usize
+    ensures { λ r. ⌜ r ≡ recordPlaceOf cells labels k ⌝ }
+{
+    if k < labels {
+        return crate::label_place(cells, k);
+    }
+    crate::variable_place(cells, labels, k - labels)
+}
+
+// The name in a record, as a number.
+fn key_at(s: &[u8], cells: u16, labels: u16, k: u16) -> u16
+    ensures { λ r. ⌜ r ≡ keyOf cells labels (now (s .entry)) k ⌝ }
+{
+    numbers::read2(s, record_place(cells, labels, k))
+}
+
+// A record before this one has its name.
+fn is_repeated(s: &[u8], cells: u16, labels: u16, k: u16) -> bool
+    ensures { λ r. ⌜ r ≡ repeatedKey cells labels (now (s .entry)) k ⌝ }
+{
+    let key = key_at(s, cells, labels, k);
+    let mut j: u16 = 0;
+    while j < k {
+        if key_at(s, cells, labels, j) == key {
+            return true;
+        }
+        j += 1;
+    }
+    false
+}
+
+// A bad, reserved or repeated name.
+fn bad_name(s: &[u8], cells: u16, labels: u16, k: u16) -> bool
+    ensures { λ r. ⌜ r ≡ badKey cells labels (now (s .entry)) k ⌝ }
+{
+    if !program::names::is_user_name(key_at(s, cells, labels, k)) {
+        return true;
+    }
+    is_repeated(s, cells, labels, k)
+}
+
+fn bad_names(s: &[u8]) -> bool
+    requires { ⌜ badTrailer (now s) ≡ false ⌝ }
+    ensures { λ r. ⌜ r ≡ anyBelow (labelCount (now (s .entry)) + variableCount (now (s .entry))) (badName (now (s .entry))) ⌝ }
+{
+    let cells = crate::cell_count(s);
+    let labels = crate::label_count(s);
+    let names = labels + crate::variable_count(s);
+    let mut k: u16 = 0;
+    while k < names {
+        if bad_name(s, cells, labels, k) {
+            return true;
+        }
+        k += 1;
+    }
+    false
+}
+
+// A label target below the one before it, or over the cell count.
+fn bad_target(s: &[u8], cells: u16, k: u16) -> bool
+    ensures { λ r. ⌜ r ≡ badTargetOf cells (now (s .entry)) k ⌝ }
+{
+    let target = target_at(s, cells, k);
+    if k == 0 {
+        return cells < target;
+    }
+    (target < target_at(s, cells, k - 1)) | (cells < target)
+}
+
+fn bad_targets(s: &[u8]) -> bool
+    ensures { λ r. ⌜ r ≡ anyBelow (labelCount (now (s .entry))) (badTarget (now (s .entry))) ⌝ }
+{
+    let cells = crate::cell_count(s);
+    let labels = crate::label_count(s);
+    let mut k: u16 = 0;
+    while k < labels {
+        if bad_target(s, cells, k) {
+            return true;
+        }
+        k += 1;
+    }
+    false
+}
+
+// A start value outside its range, or two zeros that are none, in the record at this place.
+fn bad_start(s: &[u8], cells: u16, labels: u16, k: u16) -> bool
+    ensures { λ r. ⌜ r ≡ badStartOf cells labels (now (s .entry)) k ⌝ }
+{
+    let place = crate::variable_place(cells, labels, k);
+    (numbers::read2(s, place + crate::VARIABLE_ZEROS) != 0)
+        | !is_literal(numbers::read4(s, place + crate::START_VALUE))
+}
+
+fn bad_starts(s: &[u8]) -> bool
+    ensures { λ r. ⌜ r ≡ anyBelow (variableCount (now (s .entry))) (badStart (now (s .entry))) ⌝ }
+{
+    let cells = crate::cell_count(s);
+    let labels = crate::label_count(s);
+    let variables = crate::variable_count(s);
+    let mut k: u16 = 0;
+    while k < variables {
+        if bad_start(s, cells, labels, k) {
+            return true;
+        }
+        k += 1;
+    }
+    false
+}
+
+fn bad_records(s: &[u8]) -> bool
+    requires { ⌜ badTrailer (now s) ≡ false ⌝ }
+    ensures { λ r. ⌜ r ≡ badRecords (now (s .entry)) ⌝ }
+{
+    if bad_names(s) {
+        return true;
+    }
+    if bad_targets(s) {
+        return true;
+    }
+    bad_starts(s)
+}
+
+// The lowest refusal of an image; 0 where it is accepted.
+pub fn checked(s: &[u8]) -> u8
+    ensures { λ r. ⌜ r ≡ checked (now (s .entry)) ⌝ }
+{
+    if bad_length(s) {
+        return BAD_LENGTH;
+    }
+    if bad_edition(s) {
+        return BAD_EDITION;
+    }
+    if bad_trailer(s) {
+        return BAD_TRAILER;
+    }
+    if bad_cells(s) {
+        return BAD_CELLS;
+    }
+    if bad_records(s) {
+        return BAD_RECORDS;
+    }
+    0
+}
