@@ -1,3 +1,4 @@
 pub mod Emission
 pub mod Meaning
 pub mod Runs
+pub mod Accepted

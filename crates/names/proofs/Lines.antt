@@ -41,7 +41,7 @@ unfolding tooManyBy tooMany countsOf
 too-many-key before x = rw (kind-cell x, kind-label x, kind-variable x)
 
 -- counting one line more at the end
-count-more : (p : Line → Bool) (xs : List Line) (x : Line) → count p (xs ++ (x ∷ [])) ≡ plus (p x) (count p xs)
+pub count-more : (p : Line → Bool) (xs : List Line) (x : Line) → count p (xs ++ (x ∷ [])) ≡ plus (p x) (count p xs)
 unfolding count plus
 count-more p [] x = refl
 count-more p (y ∷ ys) x = rw (count-more p ys x) (swap (p y) (p x) (count p ys))

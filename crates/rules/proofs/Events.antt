@@ -1,0 +1,148 @@
+-- Good events keep the rules, and leave the next cell.
+-- Assumes nothing.
+use mathlib.Core.Path.{_≡_, refl, sym, _∙_, subst}
+use mathlib.Core.Bool.{Bool, true, false, _&&_, _||_, not}
+use mathlib.Core.List.{List, [], _∷_}
+use mathlib.Core.Logic.{inl, ⊎-elim}
+use Prim.Native.Nat.{ℕ, zero, suc, _+_, _≤_, _<_}
+use native.Mathlib.Omega.{arith}
+use lib.Dec.{T, eqb, leb, eqb→eq, leb→le}
+use lib.IntN.{ℤ, pos}
+use lib.ListN.{set}
+use Rattle.numbers.specs.Tests.{all, anyBelow, between, eqZ, listed}
+use Rattle.program.specs.Variables.{inRange, literals, rangeOf}
+use Rattle.program.proofs.Keys.{both, both-of, either}
+use Rattle.machine.specs.declared.Machine.{Machine}
+use Rattle.machine.specs.declared.Event.{Event}
+use Rattle.machine.specs.declared.Motion.{Motion}
+use Rattle.machine.specs.declared.Motion.the-variants.{Still, To, Slewing}
+use Rattle.machine.specs.Turn.{withVariables, inMotion}
+use Rattle.machine.specs.Events.{arrivedBy, happens, goodEvent, badEvent, badEvents, eventAt, eventCount, events}
+use Rattle.machine.specs.Run.{Reached, reach}
+use Rattle.rules.specs.Rules.{Ruled, goodMotion}
+use Rattle.rules.proofs.Values.{chosen, if-same}
+use Rattle.rules.proofs.Parts.{registers-of, way-of, together, registers-set, registers-move, registers-input}
+
+-- Events 2: what a good event of each kind has.
+abbrev inputEvent : Event → Bool
+inputEvent e = eqb (e .kind) 1 && ((leb 1 (e .number) && leb (e .number) 4) && between (pos 0) (pos 1) (e .value))
+
+abbrev arrivedEvent : Event → Bool
+arrivedEvent e = eqb (e .kind) 2 && (eqb (e .number) 0 && eqZ (e .value) (pos 0))
+
+abbrev positionEvent : Event → Bool
+positionEvent e = eqb (e .kind) 3 && (eqb (e .number) 0 && inRange literals (e .value))
+
+pub data Kinds (e : Event) : Type 0 where
+  an-input : e .kind ≡ 1 → 1 ≤ e .number → e .number ≤ 4 → T (between (pos 0) (pos 1) (e .value)) → Kinds e
+  arrived : e .kind ≡ 2 → Kinds e
+  a-position : e .kind ≡ 3 → T (inRange literals (e .value)) → Kinds e
+
+pub kinds-of : (e : Event) → T (goodEvent e) → Kinds e
+unfolding goodEvent
+kinds-of e good =
+    ⊎-elim
+    (λ t.
+    let p = both (eqb (e .kind) 1) ((leb 1 (e .number) && leb (e .number) 4) && between (pos 0) (pos 1) (e .value)) t in
+    let q = both (leb 1 (e .number) && leb (e .number) 4) (between (pos 0) (pos 1) (e .value)) (p .1) in
+    let r = both (leb 1 (e .number)) (leb (e .number) 4) (q .0) in
+    an-input (eqb→eq (e .kind) 1 (p .0)) (leb→le 1 (e .number) (r .0)) (leb→le (e .number) 4 (r .1)) (q .1))
+    (λ t. ⊎-elim
+    (λ t. arrived (eqb→eq (e .kind) 2 (both (eqb (e .kind) 2) (eqb (e .number) 0 && eqZ (e .value) (pos 0)) t .0)))
+    (λ t.
+    let p = both (eqb (e .kind) 3) (eqb (e .number) 0 && inRange literals (e .value)) t in
+    a-position (eqb→eq (e .kind) 3 (p .0)) (both (eqb (e .number) 0) (inRange literals (e .value)) (p .1) .1))
+    (either (arrivedEvent e) (positionEvent e) t))
+    (either (inputEvent e) (arrivedEvent e || positionEvent e) (both (eqb (e .zeros) 0) (inputEvent e || (arrivedEvent e || positionEvent e)) good .1))
+
+module _ {cells variables : ℕ} {holds : ℕ → Bool} where
+  -- P (5) takes a value; a move to a target ends there.
+  position : {m : Machine} (z : ℤ) → T (inRange literals z) → Ruled cells variables holds m → Ruled cells variables holds (withVariables (set (m .variables) 5 z) m)
+  unfolding rangeOf
+  position z t r =
+      together (registers-set (registers-of r) 5 z tt (λ e. omega arith) (inl (omega arith)) (λ n. t) (λ e. absurd (omega arith))) (way-of r)
+
+  ruled-arrived : (motion : Motion) (m : Machine) → m .motion ≡ motion → Ruled cells variables holds m → Ruled cells variables holds (arrivedBy motion m)
+  unfolding arrivedBy inMotion goodMotion
+  ruled-arrived Still m e r = r
+  ruled-arrived (To z) m e r =
+      let t : T (inRange literals z) = subst (λ (x : Motion). T (goodMotion x)) e (r .motion) in
+      let p = position z t r in
+      together (registers-move (registers-of p) Still tt) (way-of p)
+  ruled-arrived (Slewing z) m e r = r
+
+  by-kind : (e : Event) (m : Machine) → Kinds e → Ruled cells variables holds m → Ruled cells variables holds (happens e m)
+  unfolding happens
+  by-kind e m (an-input k lo hi t) r = rw k (together (registers-input (registers-of r) (e .number) (e .value) lo hi t) (way-of r))
+  by-kind e m (arrived k) r = rw k (ruled-arrived (m .motion) m refl r)
+  by-kind e m (a-position k t) r = rw k (position (e .value) t r)
+
+  -- Turn 5, Events 2: a good event keeps the rules.
+  pub ruled-event : (e : Event) (m : Machine) → T (goodEvent e) → Ruled cells variables holds m → Ruled cells variables holds (happens e m)
+  ruled-event e m good r = by-kind e m (kinds-of e good) r
+
+  -- Turn 7: so do all events of a turn.
+  pub ruled-reach : (t : ℕ) (es : List Event) (m : Machine) → T (all goodEvent es) → Ruled cells variables holds m → Ruled cells variables holds (reach t es m .machine)
+  unfolding reach all
+  ruled-reach t [] m good r = r
+  ruled-reach t (e ∷ es) m good r =
+      let g = both (goodEvent e) (all goodEvent es) good in
+      chosen (λ (x : Reached). Ruled cells variables holds (x .machine)) (eqb (e .turn) t)
+      (λ k. ruled-reach t es (happens e m) (g .1) (ruled-event e m (g .0) r)) (λ k. r)
+
+-- The events left are good again.
+pub good-left : (t : ℕ) (es : List Event) (m : Machine) → T (all goodEvent es) → T (all goodEvent (reach t es m .left))
+unfolding reach all
+good-left t [] m good = tt
+good-left t (e ∷ es) m good =
+    chosen (λ (x : Reached). T (all goodEvent (x .left))) (eqb (e .turn) t)
+    (λ k. good-left t es (happens e m) (both (goodEvent e) (all goodEvent es) good .1)) (λ k. good)
+
+-- Events leave the next cell.
+next-arrived : (motion : Motion) (m : Machine) → arrivedBy motion m .next ≡ m .next
+unfolding arrivedBy inMotion
+next-arrived Still m = refl
+next-arrived (To z) m = refl
+next-arrived (Slewing z) m = refl
+
+pub next-event : (e : Event) (m : Machine) → happens e m .next ≡ m .next
+unfolding happens
+next-event e m =
+    chosen (λ (x : Machine). x .next ≡ m .next) (eqb (e .kind) 1)
+    (λ k. refl)
+    (λ k. chosen (λ (x : Machine). x .next ≡ m .next) (eqb (e .kind) 2)
+    (λ k. next-arrived (m .motion) m) (λ k. refl))
+
+pub next-reach : (t : ℕ) (es : List Event) (m : Machine) → reach t es m .machine .next ≡ m .next
+unfolding reach
+next-reach t [] m = refl
+next-reach t (e ∷ es) m =
+    chosen (λ (x : Reached). x .machine .next ≡ m .next) (eqb (e .turn) t)
+    (λ k. next-reach t es (happens e m) ∙ next-event e m) (λ k. refl)
+
+-- Refusals 17: the events of a script that is not refused are good.
+neither : (x y : Bool) → T (not (x || y)) → T (not x) × T (not y)
+neither true y t = absurd t
+neither false y t = (tt, t)
+
+not-not : (x : Bool) → T (not (not x)) → T x
+not-not true t = tt
+not-not false t = t
+
+all-listed : {A : Type 0} (p : A → Bool) (f : ℕ → A) (from n : ℕ) → ((k : ℕ) → k < from + n → T (p (f k))) → T (all p (listed from n f))
+unfolding all listed
+all-listed p f from zero h = tt
+all-listed p f from (suc n) h = both-of (p (f from)) (all p (listed (suc from) n f)) (h from (omega arith)) (all-listed p f (suc from) n (λ k l. h k (omega arith)))
+
+none-below : (n : ℕ) (p : ℕ → Bool) → T (not (anyBelow n p)) → (k : ℕ) → k < n → T (not (p k))
+unfolding anyBelow
+none-below zero p t k h = absurd (omega arith)
+none-below (suc n) p t k h =
+    let b = neither (anyBelow n p) (p n) t in
+    if-same k n (λ e. subst (λ (i : ℕ). T (not (p i))) (sym e) (b .1)) (λ o. none-below n p (b .0) k (omega arith))
+
+pub good-events : (s : List ℕ) → T (not (badEvents s)) → T (all goodEvent (events s))
+unfolding badEvents badEvent events
+good-events s t =
+    all-listed goodEvent (eventAt s) 0 (eventCount s)
+    (λ k h. not-not (goodEvent (eventAt s k)) (neither (not (goodEvent (eventAt s k))) _ (none-below (eventCount s) (badEvent s) t k (omega arith)) .0))

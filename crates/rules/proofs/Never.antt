@@ -1,0 +1,266 @@
+-- What never happens: the sentences of document 01 that say nothing else, no, only or at most.
+-- Assumes nothing.
+use mathlib.Core.Path.{_≡_, refl, sym, ap, ap₂, _∙_, subst}
+use mathlib.Core.Bool.{Bool, true, false, cond, _&&_, not}
+use mathlib.Core.List.{List, [], _∷_, _++_}
+use mathlib.Core.Logic.{_⊎_, inl, inr, ⊎-elim}
+use Prim.Native.Nat.{ℕ, zero, suc, _+_, _*_, _≤_, _<_}
+use native.Mathlib.Omega.{arith}
+use borrow.Author.Tests.{lt-leb, le-ltb, ne-eqb}
+use lib.Dec.{T, eqb, leb, ltb, leb→le}
+use lib.IntN.{ℤ, pos, _+ℤ_, _-ℤ_}
+use lib.ListN.{length, set, length-set, length-append}
+use Rattle.numbers.specs.Bytes.{bytes}
+use Rattle.numbers.specs.Tests.{all, eqZ}
+use Rattle.program.specs.Variables.{inRange, literals, rangeOf, readOnly, allInputs}
+use Rattle.program.specs.Cells.{noTarget}
+use Rattle.program.specs.Statements.{Value, Statement, SetWith, IC, DC, MA, MR}
+use Rattle.program.proofs.Keys.{both}
+use Rattle.machine.specs.declared.Machine.{Machine}
+use Rattle.machine.specs.declared.Motion.{Motion}
+use Rattle.machine.specs.declared.Motion.the-variants.{Still, To, Slewing}
+use Rattle.machine.specs.declared.Record.{Record}
+use Rattle.machine.specs.declared.Turned.{Turned}
+use Rattle.machine.specs.declared.Event.{Event}
+use Rattle.machine.specs.declared.Effect.{Effect}
+use Rattle.machine.specs.declared.Effect.the-variants.{Fails, Stores, Passes, Goes, Calls, Returns, Ends, Stays, Holds, Arms, Moves, Slews, Prints}
+use Rattle.machine.specs.Effects.{read, storing, storingResult, operate, storingWith, moving, value, effect}
+use Rattle.machine.specs.Turn.{recorded, stored, inMotion, movingBit, slew, called, returned, held, flagged, failed, turn}
+use Rattle.machine.specs.Events.{input, arrivedBy, happens, goodEvent, recordBytes}
+use Rattle.machine.specs.Run.{Course, Reached, reach, runFrom, ended, after}
+use Rattle.rules.specs.Rules.{Ruled}
+use Rattle.rules.specs.Good.{Good, isHold}
+use Rattle.rules.proofs.Values.{chosen, read-same, read-other, mayHold, if-same}
+use Rattle.rules.proofs.Events.{Kinds, an-input, arrived, a-position, kinds-of}
+use Rattle.rules.proofs.Turn.{Sound, sound-effect, zero-only}
+
+-- Turn 23: a statement in error changes ER and EF (10 and 15), and no other variable, no motion, no hold; the error is recorded.
+pub record InError (error : ℕ) (m : Machine) (t : Turned) : Type 0 where
+  pub variables : t .machine .variables ≡ set (set (m .variables) 10 (pos error)) 15 (pos 1)
+  pub motion : t .machine .motion ≡ m .motion
+  pub hold : t .machine .hold ≡ m .hold
+  pub wrote : t .wrote ≡ recorded 6 0 (pos error)
+
+pub in-error : (cells error : ℕ) (m : Machine) → InError error m (turn cells (Fails error) m)
+unfolding turn failed flagged called
+in-error cells error m =
+    chosen (InError error m) (eqb (m .handler) noTarget)
+    (λ k. record { variables = refl; motion = refl; hold = refl; wrote = refl })
+    (λ k. chosen (InError error m) (ltb (m .kept) 8)
+    (λ l. record { variables = refl; motion = refl; hold = refl; wrote = refl })
+    (λ l. record { variables = refl; motion = refl; hold = refl; wrote = refl }))
+
+-- The same, variable by variable.
+pub others-in-error : (cells error : ℕ) (m : Machine) (v : ℕ) → (v ≡ 10 → ⊥) → (v ≡ 15 → ⊥)
+    → read (turn cells (Fails error) m .machine .variables) v ≡ read (m .variables) v
+others-in-error cells error m v n o =
+    ap (λ (x : List ℤ). read x v) (in-error cells error m .variables)
+    ∙ read-other (set (m .variables) 10 (pos error)) 15 v (pos 1) o
+    ∙ read-other (m .variables) 10 v (pos error) n
+
+pub er-in-error : (cells error : ℕ) (m : Machine) → length (m .variables) ≡ 64 → read (turn cells (Fails error) m .machine .variables) 10 ≡ pos error
+er-in-error cells error m l =
+    ap (λ (x : List ℤ). read x 10) (in-error cells error m .variables)
+    ∙ read-other (set (m .variables) 10 (pos error)) 15 10 (pos 1) (λ e. omega arith)
+    ∙ read-same (m .variables) 10 (pos error) (omega arith)
+
+pub ef-in-error : (cells error : ℕ) (m : Machine) → length (m .variables) ≡ 64 → read (turn cells (Fails error) m .machine .variables) 15 ≡ pos 1
+ef-in-error cells error m l =
+    ap (λ (x : List ℤ). read x 15) (in-error cells error m .variables)
+    ∙ read-same (set (m .variables) 10 (pos error)) 15 (pos 1) (omega (arith, length-set (m .variables) 10 (pos error)))
+
+-- Turn 25: with a handler and eight places kept an error stops the run; next cell, places and handler are as before.
+pub stopped : (cells error : ℕ) (m : Machine) → (m .handler ≡ noTarget → ⊥) → 8 ≤ m .kept
+    → turn cells (Fails error) m ≡ record { machine = flagged error m; wrote = recorded 6 0 (pos error); stops = true }
+unfolding turn failed
+stopped cells error m n k = rw (ne-eqb (m .handler) noTarget n, le-ltb (m .kept) 8 k)
+
+pub record Unmoved (m after : Machine) : Type 0 where
+  pub next : after .next ≡ m .next
+  pub places : after .places ≡ m .places
+  pub kept : after .kept ≡ m .kept
+  pub handler : after .handler ≡ m .handler
+
+pub unmoved : (error : ℕ) (m : Machine) → Unmoved m (flagged error m)
+unfolding flagged
+unmoved error m = record { next = refl; places = refl; kept = refl; handler = refl }
+
+-- Turn 25: the reason is then 2, whatever is left of the budget.
+pub stopped-run : (act : Machine → Effect) (cells left t : ℕ) (es : List Event) (m : Machine) (error : ℕ)
+    → m .next < cells → act (reach t es m .machine) ≡ Fails error → (reach t es m .machine .handler ≡ noTarget → ⊥) → 8 ≤ reach t es m .machine .kept
+    → runFrom act cells (suc left) t es m ≡ after (recordBytes t (recorded 6 0 (pos error))) (ended 2 (suc t) (flagged error (reach t es m .machine)))
+unfolding runFrom
+stopped-run act cells left t es m error here a n k =
+    rw (lt-leb cells (m .next) here, a, stopped cells error (reach t es m .machine) n k)
+
+-- Events 6: a turn records 12 bytes or none.
+pub record-length : (t : ℕ) (r : Record) → (length (recordBytes t r) ≡ 0) ⊎ (length (recordBytes t r) ≡ 12)
+unfolding recordBytes bytes
+record-length t r = chosen (λ (x : List ℕ). (length x ≡ 0) ⊎ (length x ≡ 12)) (eqb (r .kind) 0) (λ k. inl refl) (λ k. inr refl)
+
+-- Turn 6, Events 6: a run has at most as many turns as the budget, and at most one record of 12 bytes for each.
+pub record Bounded (t left : ℕ) (c : Course) : Type 0 where
+  pub started : t ≤ c .turns
+  pub budget : c .turns ≤ t + left
+  pub count : ℕ
+  pub whole : length (c .records) ≡ 12 * count
+  pub one-each : t + count ≤ c .turns
+
+bounded-end : (reason t left : ℕ) (m : Machine) → Bounded t left (ended reason t m)
+bounded-end reason t left m = record { started = omega arith; budget = omega arith; count = 0; whole = refl; one-each = omega arith }
+
+bounded-turn : (t left : ℕ) (b : List ℕ) (c : Course) → (length b ≡ 0) ⊎ (length b ≡ 12) → Bounded (suc t) left c → Bounded t (suc left) (after b c)
+bounded-turn t left b c h n =
+    let w = n .whole in
+    let s = n .started in
+    let u = n .budget in
+    let o = n .one-each in
+    ⊎-elim
+    (λ e. record { started = omega arith; budget = omega arith; count = n .count; whole = length-append b (c .records) ∙ omega arith; one-each = omega arith })
+    (λ e. record { started = omega arith; budget = omega arith; count = suc (n .count); whole = length-append b (c .records) ∙ omega arith; one-each = omega arith })
+    h
+
+pub run-bounded : (act : Machine → Effect) (cells left t : ℕ) (es : List Event) (m : Machine) → Bounded t left (runFrom act cells left t es m)
+unfolding runFrom
+run-bounded act cells zero t es m = chosen (Bounded t 0) (leb cells (m .next)) (λ k. bounded-end 1 t 0 m) (λ k. bounded-end 3 t 0 m)
+run-bounded act cells (suc left) t es m =
+    let now = turn cells (act (reach t es m .machine)) (reach t es m .machine) in
+    chosen (Bounded t (suc left)) (leb cells (m .next)) (λ k. bounded-end 1 t (suc left) m)
+    (λ k. chosen (Bounded t (suc left)) (now .stops)
+    (λ s. bounded-turn t left (recordBytes t (now .wrote)) (ended 2 (suc t) (now .machine)) (record-length t (now .wrote)) (bounded-end 2 (suc t) left (now .machine)))
+    (λ s. bounded-turn t left (recordBytes t (now .wrote)) (runFrom act cells left (suc t) (reach t es m .left) (now .machine)) (record-length t (now .wrote))
+    (run-bounded act cells left (suc t) (reach t es m .left) (now .machine))))
+
+-- Events 3: events after the turns of the run are not used.
+cond-map : {A B : Type 0} (f : A → B) (t : Bool) {x y : A} {u v : B} → u ≡ f x → v ≡ f y → cond t u v ≡ f (cond t x y)
+cond-map f true p q = p
+cond-map f false p q = q
+
+abbrev before : List Event → Reached → Reached
+before later r = record { machine = r .machine; left = r .left ++ later }
+
+module _ (n : ℕ) (later : List Event) (late : T (all (λ (e : Event). leb n (e .turn)) later)) where
+  none-reached : (t : ℕ) (m : Machine) (es : List Event) → T (all (λ (e : Event). leb n (e .turn)) es) → t < n → reach t es m ≡ record { machine = m; left = es }
+  unfolding reach all
+  none-reached t m [] l h = refl
+  none-reached t m (e ∷ es) l h =
+      let k = leb→le n (e .turn) (both (leb n (e .turn)) (all (λ (e : Event). leb n (e .turn)) es) l .0) in
+      rw (ne-eqb (e .turn) t (λ q. omega arith))
+
+  reach-later : (t : ℕ) (es : List Event) (m : Machine) → t < n → reach t (es ++ later) m ≡ before later (reach t es m)
+  unfolding reach
+  reach-later t [] m h = none-reached t m later late h
+  reach-later t (e ∷ es) m h = cond-map (before later) (eqb (e .turn) t) (reach-later t es (happens e m) h) refl
+
+  run-later : (act : Machine → Effect) (cells left t : ℕ) (es : List Event) (m : Machine) → t + left ≤ n
+      → runFrom act cells left t (es ++ later) m ≡ runFrom act cells left t es m
+  unfolding runFrom
+  run-later act cells zero t es m h = refl
+  run-later act cells (suc left) t es m h =
+      rw (reach-later t es m (omega arith), run-later act cells left (suc t) (reach t es m .left) (turn cells (act (reach t es m .machine)) (reach t es m .machine) .machine) (omega arith))
+
+pub later-unused : (act : Machine → Effect) (cells left t : ℕ) (es later : List Event) (m : Machine) → T (all (λ (e : Event). leb (t + left) (e .turn)) later)
+    → runFrom act cells left t (es ++ later) m ≡ runFrom act cells left t es m
+later-unused act cells left t es later m late = run-later (t + left) later late act cells left t es m (omega arith)
+
+-- Turn 11: nothing but a store to ER clears EF (15); and the store is of 0, the only value that ER takes.
+store-clears : (vars : List ℤ) (v : ℕ) (z : ℤ) → T (not (readOnly v)) → T (mayHold vars v z)
+    → read vars 15 ≡ pos 1 → (read (stored vars v z) 15 ≡ pos 1 → ⊥) → Stores v z ≡ Stores 10 (pos 0)
+unfolding stored rangeOf
+store-clears vars v z w t b a =
+    if-same v 10
+    (λ e. ap₂ Stores e (zero-only z (subst (λ (k : ℕ). T (mayHold vars k z)) e t)))
+    (λ n. absurd (a (rw (ne-eqb v 10 n) (read-other vars v 15 z (λ e. subst (λ (k : ℕ). T (not (readOnly k))) (sym e) w) ∙ b))))
+
+held-variables : (turns : ℕ) (m : Machine) → held turns m .variables ≡ m .variables
+unfolding held
+held-variables turns m = chosen (λ (x : Machine). x .variables ≡ m .variables) (ltb 0 turns) (λ k. refl) (λ k. refl)
+
+module _ (cells variables : ℕ) (holds : ℕ → Bool) (m : Machine) (r : Ruled cells variables holds m) (set-before : read (m .variables) 15 ≡ pos 1) where
+  ef-cleared : (e : Effect) → Sound cells variables holds m e → (read (turn cells e m .machine .variables) 15 ≡ pos 1 → ⊥) → e ≡ Stores 10 (pos 0)
+  unfolding turn inMotion called returned
+  ef-cleared (Fails error) s a = absurd (a (ef-in-error cells error m (r .all-there .0)))
+  ef-cleared (Stores v z) s a = store-clears (m .variables) v z (s .1) (s .2) set-before a
+  ef-cleared Passes s a = absurd (a set-before)
+  ef-cleared (Goes cell) s a = absurd (a set-before)
+  ef-cleared (Calls cell) s a = absurd (a set-before)
+  ef-cleared Returns s a = absurd (a set-before)
+  ef-cleared Ends s a = absurd (a set-before)
+  ef-cleared Stays s a = absurd (a set-before)
+  ef-cleared (Holds turns) s a = absurd (a (ap (λ (x : List ℤ). read x 15) (held-variables turns m) ∙ set-before))
+  ef-cleared (Arms cell) s a = absurd (a set-before)
+  ef-cleared (Moves target kind z) s a = absurd (a (read-other (m .variables) 14 15 (movingBit (To target)) (λ e. omega arith) ∙ set-before))
+  ef-cleared (Slews z) s a = absurd (a (read-other (m .variables) 14 15 (movingBit (slew z)) (λ e. omega arith) ∙ set-before))
+  ef-cleared (Prints v z) s a = absurd (a set-before)
+
+  pub only-er-clears-ef : {R : Type 0} (place number : R → ℕ) (s : Statement R) → Good cells variables place number s → holds (m .next) ≡ isHold s
+      → (read (turn cells (effect place number (m .variables) (m .kept) (m .hold) s) m .machine .variables) 15 ≡ pos 1 → ⊥)
+      → effect place number (m .variables) (m .kept) (m .hold) s ≡ Stores 10 (pos 0)
+  only-er-clears-ef place number s good h a =
+      ef-cleared (effect place number (m .variables) (m .kept) (m .hold) s) (sound-effect cells variables holds m place number s good r h) a
+
+-- Such a store does.
+pub er-clears-ef : (cells : ℕ) (z : ℤ) (m : Machine) → length (m .variables) ≡ 64 → read (turn cells (Stores 10 z) m .machine .variables) 15 ≡ pos 0
+unfolding turn stored
+er-clears-ef cells z m l = read-same (set (m .variables) 10 z) 15 (pos 0) (omega (arith, length-set (m .variables) 10 z))
+
+-- An event does not.
+ef-arrived : (motion : Motion) (m : Machine) → read (arrivedBy motion m .variables) 15 ≡ read (m .variables) 15
+unfolding arrivedBy inMotion
+ef-arrived Still m = refl
+ef-arrived (To z) m = read-other (set (m .variables) 5 z) 14 15 (movingBit Still) (λ e. omega arith) ∙ read-other (m .variables) 5 15 z (λ e. omega arith)
+ef-arrived (Slewing z) m = refl
+
+ef-kind : (e : Event) (m : Machine) → Kinds e → read (happens e m .variables) 15 ≡ read (m .variables) 15
+unfolding happens input
+ef-kind e m (an-input k lo hi t) =
+    rw k
+    (read-other (set (m .variables) (15 + e .number) (e .value)) 20 15 (allInputs (set (m .variables) (15 + e .number) (e .value))) (λ q. omega arith)
+    ∙ read-other (m .variables) (15 + e .number) 15 (e .value) (λ q. omega arith))
+ef-kind e m (arrived k) = rw k (ef-arrived (m .motion) m)
+ef-kind e m (a-position k t) = rw k (read-other (m .variables) 5 15 (e .value) (λ q. omega arith))
+
+pub ef-event : (e : Event) (m : Machine) → T (goodEvent e) → read (happens e m .variables) 15 ≡ read (m .variables) 15
+ef-event e m good = ef-kind e m (kinds-of e good)
+
+-- Turn 22: the order of errors, 106, 102, 101, 103.
+module _ {R : Type 0} (place number : R → ℕ) (vars : List ℤ) (kept hold : ℕ) where
+  abbrev does : Statement R → Effect
+  does s = effect place number vars kept hold s
+
+  abbrev worth : Value R → ℤ
+  worth x = value place number vars kept hold x
+
+  -- A move while MV is 1 is 106, whatever the target.
+  pub moving-first : (x : Value R) → read vars 14 ≡ pos 1 → (does (MA x) ≡ Fails 106) × (does (MR x) ≡ Fails 106)
+  unfolding effect moving eqZ
+  moving-first x e = (rw e, rw e)
+
+  -- A target outside the literal range is 101 only then.
+  pub target-next : (x : Value R) → eqZ (read vars 14) (pos 1) ≡ false
+      → (inRange literals (worth x) ≡ false → does (MA x) ≡ Fails 101) × (inRange literals (read vars 5 +ℤ worth x) ≡ false → does (MR x) ≡ Fails 101)
+  unfolding effect moving
+  target-next x e = (λ f. rw (e, f), λ f. rw (e, f))
+
+  -- A zero divisor is 102, whatever the ranges.
+  pub divisor-first : (v : R) (x y : Value R) → worth y ≡ pos 0 → does (SetWith v x 4 y) ≡ Fails 102
+  unfolding effect storingWith eqZ
+  divisor-first v x y e = rw e
+
+  -- IC and DC past the literal range are 101, whatever the variable's range.
+  pub count-first : (v : R)
+      → (inRange literals (read vars (number v) +ℤ pos 1) ≡ false → does (IC v) ≡ Fails 101)
+      × (inRange literals (read vars (number v) -ℤ pos 1) ≡ false → does (DC v) ≡ Fails 101)
+  unfolding effect storingResult
+  count-first v = (λ f. rw f, λ f. rw f)
+
+  -- A result outside the literal range is 101, whatever the variable's range; only one inside it can be 103.
+  module _ (v : R) (x y : Value R) (o : ℕ) (divides : (eqb o 4 && eqZ (worth y) (pos 0)) ≡ false) where
+    pub literals-next : inRange literals (operate o (worth x) (worth y)) ≡ false → does (SetWith v x o y) ≡ Fails 101
+    unfolding effect storingWith storingResult
+    literals-next f = rw (divides, f)
+
+    pub variable-last : inRange literals (operate o (worth x) (worth y)) ≡ true → mayHold vars (number v) (operate o (worth x) (worth y)) ≡ false
+        → does (SetWith v x o y) ≡ Fails 103
+    unfolding effect storingWith storingResult storing
+    variable-last t f = rw (divides, t, f)

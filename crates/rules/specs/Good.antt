@@ -1,0 +1,48 @@
+-- Document 01, "One turn": what the rules for a state ask of a statement. What it reads may be anything: each effect tests what it stores.
+-- Assumes nothing.
+use mathlib.Core.Path.{_≡_}
+use mathlib.Core.Bool.{Bool, true, false, _&&_, not}
+use Prim.Native.Nat.{ℕ}
+use lib.Dec.{T, leb}
+use Rattle.numbers.specs.Tests.{all}
+use Rattle.program.specs.Variables.{present, readOnly}
+use Rattle.program.specs.Statements.{Statement, Set, SetWith, IC, DC, BR, CL, RT, E, H, Hold, OE, Disarm, MA, MR, SL, PR, writes, targets}
+use Rattle.machine.specs.declared.Machine.{Machine}
+use Rattle.machine.specs.declared.Effect.{Effect}
+use Rattle.machine.specs.Effects.{effect}
+
+-- Turn 5: an `H x`.
+module _ {R : Type 0} where
+  unfoldable pub isHold : Statement R → Bool
+  isHold (Set v x) = false
+  isHold (SetWith v x o y) = false
+  isHold (IC v) = false
+  isHold (DC v) = false
+  isHold (BR n c) = false
+  isHold (CL n c) = false
+  isHold RT = false
+  isHold E = false
+  isHold H = false
+  isHold (Hold x) = true
+  isHold (OE n) = false
+  isHold Disarm = false
+  isHold (MA x) = false
+  isHold (MR x) = false
+  isHold (SL x) = false
+  isHold (PR x) = false
+
+-- Variables 1: a variable that a statement may write.
+unfoldable pub writable : ℕ → ℕ → Bool
+writable variables v = present variables v && not (readOnly v)
+
+-- Image 9, Variables 1: each label named has a place that is at most the cell count, each variable written is there and not read-only.
+pub record Good {R : Type 0} (cells variables : ℕ) (place number : R → ℕ) (s : Statement R) : Type 0 where
+  pub named : T (all (λ (n : R). leb (place n) cells) (targets s))
+  pub written : T (all (λ (v : R). writable variables (number v)) (writes s))
+
+-- Turn 7: at this machine a good statement acts, an `H x` exactly where `holds` says so.
+pub record Acts {R : Type 0} (cells variables : ℕ) (holds : ℕ → Bool) (place number : R → ℕ) (act : Machine → Effect) (m : Machine) : Type 0 where
+  pub statement : Statement R
+  pub good : Good cells variables place number statement
+  pub hold : holds (m .next) ≡ isHold statement
+  pub does : act m ≡ effect place number (m .variables) (m .kept) (m .hold) statement
