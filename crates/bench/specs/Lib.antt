@@ -2,4 +2,3 @@ pub mod Translating
 pub mod Running
 pub mod Following
 pub mod Sheet
-pub mod Code

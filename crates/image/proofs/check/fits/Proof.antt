@@ -35,8 +35,12 @@ unfolding fitsOf
 returns-4 c =
     let n = c .before .before .before .before in
     let w = n .before .before in
-    rw (eq-eqb _ _ (w .before .if1 .left), told-true (w .good-written .ensures) (n .before .if2 .left), told-true (n .good-selector .ensures) (c .before .before .before .if3 .left),
-    told-false (c .before .good-operand .ensures) (c .if4 .taken))
+    rw (
+      eq-eqb _ _ (w .before .if1 .left),
+      told-true (w .good-written .ensures) (n .before .if2 .left),
+      told-true (n .good-selector .ensures) (c .before .before .before .if3 .left),
+      told-false (c .before .good-operand .ensures) (c .if4 .taken),
+    )
 
 good-operand-requires-2 : tie.Need-good-operand-requires-2
 good-operand-requires-2 c κs = search needs
@@ -47,8 +51,13 @@ returns-5 c =
     let l = c .before .before .before .before in
     let n = l .before .before .before in
     let w = n .before .before in
-    rw (eq-eqb _ _ (w .before .if1 .left), told-true (w .good-written .ensures) (n .before .if2 .left), told-true (n .good-selector .ensures) (l .before .before .if3 .left),
-    told-true (l .good-operand .ensures) (c .before .before .before .if4 .left), told-false (c .before .good-operand2 .ensures) (c .if5 .taken))
+    rw (
+      eq-eqb _ _ (w .before .if1 .left),
+      told-true (w .good-written .ensures) (n .before .if2 .left),
+      told-true (n .good-selector .ensures) (l .before .before .if3 .left),
+      told-true (l .good-operand .ensures) (c .before .before .before .if4 .left),
+      told-false (c .before .good-operand2 .ensures) (c .if5 .taken),
+    )
 
 good-target-requires : tie.Need-good-target-requires
 good-target-requires c κs = search needs
@@ -60,8 +69,14 @@ returns-6 c =
     let l = r .before .before .before in
     let n = l .before .before .before in
     let w = n .before .before in
-    rw (eq-eqb _ _ (w .before .if1 .left), told-true (w .good-written .ensures) (n .before .if2 .left), told-true (n .good-selector .ensures) (l .before .before .if3 .left),
-    told-true (l .good-operand .ensures) (r .before .before .if4 .left), told-true (r .good-operand2 .ensures) (c .before .before .if5 .left), c .before .good-target .ensures)
+    rw (
+      eq-eqb _ _ (w .before .if1 .left),
+      told-true (w .good-written .ensures) (n .before .if2 .left),
+      told-true (n .good-selector .ensures) (l .before .before .if3 .left),
+      told-true (l .good-operand .ensures) (r .before .before .if4 .left),
+      told-true (r .good-operand2 .ensures) (c .before .before .if5 .left),
+      c .before .good-target .ensures,
+    )
 
 pub fits-spec : {M : Type 1} → statement M
 fits-spec =

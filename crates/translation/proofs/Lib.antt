@@ -1,4 +1,3 @@
 pub mod Emission
-pub mod Meaning
-pub mod Runs
 pub mod Accepted
+pub mod Parts

@@ -117,16 +117,20 @@ module _ (text : List Line) where
   labels-behind : (before : List Line) (ls : List (List ℕ)) → Clean text before ls → Behind makesLabel mostLabels before ls
   unfolding tooMany
   labels-behind before [] h = tt
-  labels-behind before (l ∷ ls) h =
-      (left-false (tests makesLabel mostLabels before l) (tests makesVariable mostVariables before l)
-       (right-false (tests makesCell mostCells before l) _ (no-many text before l (h .0))), labels-behind (before ++ (heard l ∷ [])) ls (h .1))
+  labels-behind before (l ∷ ls) h = (
+    left-false (tests makesLabel mostLabels before l) (tests makesVariable mostVariables before l)
+        (right-false (tests makesCell mostCells before l) _ (no-many text before l (h .0))),
+    labels-behind (before ++ (heard l ∷ [])) ls (h .1),
+  )
 
   variables-behind : (before : List Line) (ls : List (List ℕ)) → Clean text before ls → Behind makesVariable mostVariables before ls
   unfolding tooMany
   variables-behind before [] h = tt
-  variables-behind before (l ∷ ls) h =
-      (right-false (tests makesLabel mostLabels before l) (tests makesVariable mostVariables before l)
-       (right-false (tests makesCell mostCells before l) _ (no-many text before l (h .0))), variables-behind (before ++ (heard l ∷ [])) ls (h .1))
+  variables-behind before (l ∷ ls) h = (
+    right-false (tests makesLabel mostLabels before l) (tests makesVariable mostVariables before l)
+        (right-false (tests makesCell mostCells before l) _ (no-many text before l (h .0))),
+    variables-behind (before ++ (heard l ∷ [])) ls (h .1),
+  )
 
 -- a text without a fault keeps the limits
 module _ (text : List ℕ) (h : firstFault text .number ≡ 0) where

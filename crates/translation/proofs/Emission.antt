@@ -7,7 +7,7 @@ use native.Mathlib.Omega.{arith}
 use lib.ListN.{length, take, drop, set, length-append, take-append-drop, length-take, length-drop}
 use lib.Seq.{sets, sets-eq, take-at, drop-at, length-take-le}
 use Rattle.numbers.specs.Tests.{joined}
-use Rattle.bench.specs.Code.{emitFrom}
+use Rattle.translation.specs.Code.{emitFrom}
 
 -- a list written over as many elements behind a prefix
 pub sets-mid : (p x s v : List ℕ) (i : ℕ) → i ≡ length p → length x ≡ length v → sets (p ++ (x ++ s)) i v ≡ p ++ (v ++ s)
@@ -29,13 +29,13 @@ written p x q y r z t x₁ x₂ y₁ y₂ z₁ z₂ u v w i j k ex ey ez hu hv h
     let nx : length x ≡ length x₁ + length x₂ = ap length ex ∙ length-append x₁ x₂ in
     let ny : length y ≡ length y₁ + length y₂ = ap length ey ∙ length-append y₁ y₂ in
     let first : sets (p ++ (x₁ ++ (x₂ ++ (q ++ (y ++ (r ++ (z ++ t))))))) i u ≡ p ++ (u ++ (x₂ ++ (q ++ (y ++ (r ++ (z ++ t))))))
-        = sets-mid p x₁ (x₂ ++ (q ++ (y ++ (r ++ (z ++ t))))) u i ei hu in
+    = sets-mid p x₁ (x₂ ++ (q ++ (y ++ (r ++ (z ++ t))))) u i ei hu in
     let nj : length (p ++ (u ++ (x₂ ++ q))) ≡ length p + (length u + (length x₂ + length q)) = simp length-append in
     let second : sets (p ++ (u ++ (x₂ ++ (q ++ (y₁ ++ (y₂ ++ (r ++ (z ++ t)))))))) j v ≡ p ++ (u ++ (x₂ ++ (q ++ (v ++ (y₂ ++ (r ++ (z ++ t)))))))
-        = simp append-assoc at (sets-mid (p ++ (u ++ (x₂ ++ q))) y₁ (y₂ ++ (r ++ (z ++ t))) v j (omega arith) hv) in
+    = simp append-assoc at (sets-mid (p ++ (u ++ (x₂ ++ q))) y₁ (y₂ ++ (r ++ (z ++ t))) v j (omega arith) hv) in
     let nk : length (p ++ (u ++ (x₂ ++ (q ++ (v ++ (y₂ ++ r)))))) ≡ length p + (length u + (length x₂ + (length q + (length v + (length y₂ + length r))))) = simp length-append in
     let third : sets (p ++ (u ++ (x₂ ++ (q ++ (v ++ (y₂ ++ (r ++ (z₁ ++ (z₂ ++ t))))))))) k w ≡ p ++ (u ++ (x₂ ++ (q ++ (v ++ (y₂ ++ (r ++ (w ++ (z₂ ++ t))))))))
-        = simp append-assoc at (sets-mid (p ++ (u ++ (x₂ ++ (q ++ (v ++ (y₂ ++ r)))))) z₁ (z₂ ++ t) w k (omega arith) hw) in
+    = simp append-assoc at (sets-mid (p ++ (u ++ (x₂ ++ (q ++ (v ++ (y₂ ++ r)))))) z₁ (z₂ ++ t) w k (omega arith) hw) in
     ap (λ (l : List ℕ). sets (sets (sets (p ++ (l ++ (q ++ (y ++ (r ++ (z ++ t)))))) i u) j v) k w) ex
     ∙ ap (λ (l : List ℕ). sets (sets (sets (p ++ l) i u) j v) k w) (append-assoc x₁ x₂ (q ++ (y ++ (r ++ (z ++ t)))))
     ∙ ap (λ (l : List ℕ). sets (sets l j v) k w) first
@@ -85,7 +85,7 @@ module _ {A : Type 0} (f g h : A → List ℕ) where
       let ny : length y ≡ length v + length (joined g ws) = b ∙ length-append v (joined g ws) in
       ap (λ (l : List ℕ). emitFrom f g h (i + length u) (j + length v) (k + length s) ws l)
       (written p x q y r z t (take (length u) x) (drop (length u) x) (take (length v) y) (drop (length v) y) (take (length s) z) (drop (length s) z) u v s i j k
-       (sym (take-append-drop (length u) x)) (sym (take-append-drop (length v) y)) (sym (take-append-drop (length s) z)) ux uy uz d e o)
+      (sym (take-append-drop (length u) x)) (sym (take-append-drop (length v) y)) (sym (take-append-drop (length s) z)) ux uy uz d e o)
       ∙ emitted ws (i + length u) (j + length v) (k + length s) (p ++ u) (drop (length u) x) (q ++ v) (drop (length v) y) (r ++ s) (drop (length s) z) t rx ry rz
-        (omega (arith, length-append p u)) (omega (arith, length-append p u, length-append q v)) (omega (arith, length-append p u, length-append q v, length-append r s))
+      (omega (arith, length-append p u)) (omega (arith, length-append p u, length-append q v)) (omega (arith, length-append p u, length-append q v, length-append r s))
       ∙ simp append-assoc

@@ -52,6 +52,6 @@ module _ (f g : Machine → Effect) (cells : ℕ) (agree : (m : Machine) → m .
   run-same (suc left) t es m =
       cond-same (leb cells (m .next)) _ _ _
       (λ e.
-        let inside : reach t es m .machine .next < cells = rw (reach-next t es m) (leb-false cells (m .next) e) in
-        rw (agree (reach t es m .machine) inside)
-        (rw (run-same left (suc t) (reach t es m .left) (turn cells (g (reach t es m .machine)) (reach t es m .machine) .machine))))
+      let inside : reach t es m .machine .next < cells = rw (reach-next t es m) (leb-false cells (m .next) e) in
+      rw (agree (reach t es m .machine) inside)
+      (rw (run-same left (suc t) (reach t es m .left) (turn cells (g (reach t es m .machine)) (reach t es m .machine) .machine))))

@@ -1,0 +1,1 @@
+// A text and its image say one thing: theorems, no code.

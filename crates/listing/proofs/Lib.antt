@@ -1,0 +1,13 @@
+pub mod Kit
+pub mod Cut
+pub mod Tokens
+pub mod Literals
+pub mod Values
+pub mod Signs
+pub mod Rows
+pub mod Told
+pub mod Accepted
+pub mod Cells
+pub mod Said
+pub mod Clear
+pub mod Size

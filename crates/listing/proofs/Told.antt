@@ -1,0 +1,356 @@
+-- Each line of a listing, over the names that it prints: its tokens, its bytes, and that it is heard as what was told.
+-- Assumes nothing.
+use mathlib.Core.Path.{_≡_, refl, ap, subst, _∙_}
+use mathlib.Core.Bool.{false}
+use mathlib.Core.List.{List, [], _∷_, _++_, append-nil}
+use mathlib.Core.Option.{some}
+use Prim.Native.Nat.{ℕ, _+_, _-_, _≤_}
+use native.Mathlib.Omega.{arith}
+use borrow.Author.Tests.{le-ltb, ne-eqb}
+use lib.Dec.{T, ltb, lit≤}
+use lib.IntN.{ℤ}
+use lib.ListN.{length, getD, length-append}
+use Rattle.numbers.specs.Bytes.{ascii}
+use Rattle.numbers.specs.Tests.{all, any}
+use Rattle.program.specs.Names.{Name, letter, digit, wordCharacter, reserved, userName}
+use Rattle.program.specs.Variables.{inRange, literals}
+use Rattle.program.specs.Statements.{Value, Literal, Variable, Condition, Always, Compare, Statement, Set, SetWith, IC, DC, BR, CL, RT, E, H, Hold, OE, Disarm, MA, MR, SL, PR, operands, compared}
+use Rattle.text.specs.Tokens.{Token, tokens, joins, longer, printable, uncommented}
+use Rattle.text.specs.Forms.{Line, Label, Declared, Acts, operators, comparisons, variableName, statement, reading}
+use Rattle.text.specs.Faults.{longLine, badForm, tooBig, bigValue, bigIn, bigLiteral, declares, reservedName, heard}
+use Rattle.listing.specs.Listing.{plain}
+use Rattle.listing.proofs.Kit.{is-true, all-append}
+use Rattle.listing.proofs.Tokens.{token, follows, Stops, fine, fine-printable, fine-uncommented}
+use Rattle.listing.proofs.Values.{spelt, spelling, Spelt, user-two, user-free, user-spelt, variable-spelt, tokens-name, name-fine, valueTold, Sound, valueTokens, tokens-value, value-fine, value-length, Starts, value-starts}
+use Rattle.listing.proofs.Signs.{Sign, equals, comma, operator-sign, comparison-sign, operator-number, comparison-number}
+use Rattle.listing.proofs.Rows.{table, says-LB, says-VA, says-IC, says-DC, says-BR, says-CL, says-OE, says-BR-if, says-CL-if, says-MA, says-MR, says-SL, says-PR, says-hold, says-set, says-set-with}
+
+-- A part of a line, up to its end: its tokens, its bytes, and at most how many.
+pub record Part (l : List ℕ) (ts : List Token) (n : ℕ) : Type 0 where
+  pub cut : tokens l ≡ ts
+  pub kind : T (all fine l)
+  pub size : length l ≤ n
+
+part-end : Part [] [] 0
+unfolding tokens all
+part-end = record { cut = refl; kind = tt; size = omega arith }
+
+-- What stands in front of a part.
+module _ {rest : List ℕ} {ts : List Token} {n : ℕ} (p : Part rest ts n) where
+  part-name : (w : Name) → Spelt w → Stops rest → Part (w ++ rest) (token w (follows rest) ∷ ts) (2 + n)
+  part-name w s e = record {
+    cut = tokens-name w rest s e ∙ ap (λ (us : List Token). token w (follows rest) ∷ us) (p .cut);
+    kind = all-append fine w rest (name-fine w s) (p .kind);
+    size = rw length-append (omega (arith, s .short, p .size));
+  }
+
+  part-value : (x : Value Name) → Sound x → Stops rest → Part (valueTold x ++ rest) (valueTokens x (follows rest) ts) (11 + n)
+  part-value x s e = record {
+    cut = tokens-value x rest s e ∙ ap (valueTokens x (follows rest)) (p .cut);
+    kind = all-append fine (valueTold x) rest (value-fine x s) (p .kind);
+    size = rw length-append (omega (arith, value-length x s, p .size));
+  }
+
+  part-sign : (w : Name) → Sign w → Starts rest → Part (w ++ rest) (token w (follows rest) ∷ ts) (2 + n)
+  part-sign w s e = record {
+    cut = s .cuts rest e ∙ ap (λ (us : List Token). token w (follows rest) ∷ us) (p .cut);
+    kind = all-append fine w rest (s .kind) (p .kind);
+    size = rw length-append (omega (arith, s .short, p .size));
+  }
+
+name-last : (w : Name) → Spelt w → Part w (token w false ∷ []) 2
+unfolding wordCharacter letter digit
+name-last w s = subst (λ (l : List ℕ). Part l (token w false ∷ []) 2) (append-nil w) (part-name part-end w s refl)
+
+value-last : (x : Value Name) → Sound x → Part (valueTold x) (valueTokens x false []) 11
+unfolding wordCharacter letter digit
+value-last x s = subst (λ (l : List ℕ). Part l (valueTokens x false []) 11) (append-nil (valueTold x)) (part-value part-end x s refl)
+
+starts-last : (x : Value Name) → Sound x → Starts (valueTold x)
+starts-last x s = subst Starts (append-nil (valueTold x)) (value-starts x [] s)
+
+-- A mnemonic and its space.
+part-mnemonic : (m : Name) → T (spelt m) → {rest : List ℕ} {ts : List Token} {n : ℕ} → Part rest ts n → Part (m ++ (32 ∷ rest)) (token m false ∷ ts) (3 + n)
+unfolding tokens all printable wordCharacter letter digit
+part-mnemonic m t {rest} {ts} {n} p =
+    let q : Part (32 ∷ rest) ts (1 + n) = record { cut = p .cut; kind = p .kind; size = omega (arith, p .size) } in
+    let r = part-name q m (spelling m t) refl in
+    record { cut = r .cut; kind = r .kind; size = omega (arith, r .size) }
+
+-- A line as it is printed, and what it says.
+pub record Printed (l : List ℕ) (x : Line) : Type 0 where
+  pub kind : T (all fine l)
+  pub size : length l ≤ 32
+  pub reads : reading l ≡ some x
+
+printed : (l : List ℕ) (x : Line) {ts : List Token} {n : ℕ} → Part l ts n → n ≤ 32 → statement ts ≡ some x → Printed l x
+unfolding reading
+printed l x p h e = record {
+  kind = p .kind;
+  size = omega (arith, p .size);
+  reads = rw (fine-printable l (p .kind), fine-uncommented l (p .kind), p .cut) e;
+}
+
+-- Such a line is heard, where it has no literal that is too big and declares no reserved name.
+pub heard-printed : (l : List ℕ) (x : Line) → Printed l x → bigIn x ≡ false → any reserved (declares x) ≡ false → heard l ≡ x
+unfolding heard longLine badForm bigLiteral reservedName
+heard-printed l x p b r =
+    let s : ltb 64 (length l) ≡ false = le-ltb 64 (length l) (omega (arith, p .size)) in
+    rw (heard, longLine, badForm, bigLiteral, reservedName, s, p .reads, b, r)
+
+-- All that a word of the table computes with.
+letters : Unit {0}
+unfolding ascii all wordCharacter letter digit
+letters = tt
+
+-- The lines that declare.
+pub reads-label : (w : Name) → T (userName w) → Printed (ascii "LB " ++ w) (Label w)
+unfolding letters
+reads-label w t =
+    printed (ascii "LB " ++ w) (Label w) (part-mnemonic (ascii "LB") tt (name-last w (user-spelt w t))) (lit≤ tt)
+    (says-LB w false false (user-two w t))
+
+pub reads-declared : (w : Name) (z : ℤ) → T (userName w) → T (inRange literals z) → Printed (ascii "VA " ++ (w ++ (ascii "=" ++ plain z))) (Declared w z)
+unfolding letters
+reads-declared w z t r =
+    let v = part-sign (value-last (Literal z) r) (ascii "=") equals (starts-last (Literal z) r) in
+    printed (ascii "VA " ++ (w ++ (ascii "=" ++ plain z))) (Declared w z)
+    (part-mnemonic (ascii "VA") tt (part-name v w (user-spelt w t) (equals .stops (plain z)))) (lit≤ tt)
+    (says-VA w z false _ _ false (user-two w t) r)
+
+-- A variable set.
+pub reads-set : (v : Name) (x : Value Name) → T (variableName v) → Sound x → Printed (v ++ (ascii "=" ++ valueTold x)) (Acts (Set v x))
+reads-set v x t h =
+    let p = part-sign (value-last x h) (ascii "=") equals (starts-last x h) in
+    printed (v ++ (ascii "=" ++ valueTold x)) (Acts (Set v x)) (part-name p v (variable-spelt v t) (equals .stops (valueTold x))) (lit≤ tt)
+    (says-set v x _ _ false t h)
+
+pub reads-set-with : (v : Name) (x : Value Name) (o : ℕ) (y : Value Name) → T (variableName v) → Sound x → 1 ≤ o → o ≤ 7 → Sound y
+    → Printed (v ++ (ascii "=" ++ (valueTold x ++ (getD operators (o - 1) [] ++ valueTold y)))) (Acts (SetWith v x o y))
+reads-set-with v x o y t h a b k =
+    let w : Name = getD operators (o - 1) [] in
+    let g = operator-sign o a b in
+    let p = part-value (part-sign (value-last y k) w g (starts-last y k)) x h (g .stops (valueTold y)) in
+    let q = part-sign p (ascii "=") equals (value-starts x (w ++ valueTold y) h) in
+    printed (v ++ (ascii "=" ++ (valueTold x ++ (w ++ valueTold y)))) (Acts (SetWith v x o y))
+    (part-name q v (variable-spelt v t) (equals .stops (valueTold x ++ (w ++ valueTold y)))) (lit≤ tt)
+    (says-set-with v x w o y _ _ _ _ false t h (operator-number o a b) (ne-eqb o 0 (λ e. omega arith)) k)
+
+pub reads-IC : (v : Name) → T (variableName v) → Printed (ascii "IC " ++ v) (Acts (IC v))
+unfolding letters
+reads-IC v t =
+    printed (ascii "IC " ++ v) (Acts (IC v)) (part-mnemonic (ascii "IC") tt (name-last v (variable-spelt v t))) (lit≤ tt)
+    (says-IC v false false t)
+
+pub reads-DC : (v : Name) → T (variableName v) → Printed (ascii "DC " ++ v) (Acts (DC v))
+unfolding letters
+reads-DC v t =
+    printed (ascii "DC " ++ v) (Acts (DC v)) (part-mnemonic (ascii "DC") tt (name-last v (variable-spelt v t))) (lit≤ tt)
+    (says-DC v false false t)
+
+-- A condition as it is printed, and one that a text can have.
+abbrev pub conditionTold : Condition Name → List ℕ
+conditionTold Always = []
+conditionTold (Compare x c y) = ascii "," ++ (valueTold x ++ (getD comparisons (c - 1) [] ++ valueTold y))
+
+abbrev pub Fair : Condition Name → Type 0
+Fair Always = Unit {0}
+Fair (Compare x c y) = Sound x × ((1 ≤ c) × (c ≤ 6)) × Sound y
+
+pub reads-BR : (n : Name) (c : Condition Name) → T (userName n) → Fair c → Printed (ascii "BR " ++ (n ++ conditionTold c)) (Acts (BR n c))
+unfolding letters
+reads-BR n Always t f =
+    printed (ascii "BR " ++ (n ++ [])) (Acts (BR n Always)) (part-mnemonic (ascii "BR") tt (part-name part-end n (user-spelt n t) refl)) (lit≤ tt)
+    (says-BR n false false t)
+reads-BR n (Compare x c y) t f =
+    let w : Name = getD comparisons (c - 1) [] in
+    let g = comparison-sign c (f .1 .0) (f .1 .1) in
+    let p = part-value (part-sign (value-last y (f .2)) w g (starts-last y (f .2))) x (f .0) (g .stops (valueTold y)) in
+    let q = part-sign p (ascii ",") comma (value-starts x (w ++ valueTold y) (f .0)) in
+    let r = part-name q n (user-spelt n t) (comma .stops (valueTold x ++ (w ++ valueTold y))) in
+    let l = f .1 .0 in
+    printed (ascii "BR " ++ (n ++ conditionTold (Compare x c y))) (Acts (BR n (Compare x c y))) (part-mnemonic (ascii "BR") tt r) (lit≤ tt)
+    (says-BR-if n x w c y false _ _ _ _ false t (f .0) (comparison-number c (f .1 .0) (f .1 .1)) (ne-eqb c 0 (λ e. omega arith)) (f .2))
+
+pub reads-CL : (n : Name) (c : Condition Name) → T (userName n) → Fair c → Printed (ascii "CL " ++ (n ++ conditionTold c)) (Acts (CL n c))
+unfolding letters
+reads-CL n Always t f =
+    printed (ascii "CL " ++ (n ++ [])) (Acts (CL n Always)) (part-mnemonic (ascii "CL") tt (part-name part-end n (user-spelt n t) refl)) (lit≤ tt)
+    (says-CL n false false t)
+reads-CL n (Compare x c y) t f =
+    let w : Name = getD comparisons (c - 1) [] in
+    let g = comparison-sign c (f .1 .0) (f .1 .1) in
+    let p = part-value (part-sign (value-last y (f .2)) w g (starts-last y (f .2))) x (f .0) (g .stops (valueTold y)) in
+    let q = part-sign p (ascii ",") comma (value-starts x (w ++ valueTold y) (f .0)) in
+    let r = part-name q n (user-spelt n t) (comma .stops (valueTold x ++ (w ++ valueTold y))) in
+    let l = f .1 .0 in
+    printed (ascii "CL " ++ (n ++ conditionTold (Compare x c y))) (Acts (CL n (Compare x c y))) (part-mnemonic (ascii "CL") tt r) (lit≤ tt)
+    (says-CL-if n x w c y false _ _ _ _ false t (f .0) (comparison-number c (f .1 .0) (f .1 .1)) (ne-eqb c 0 (λ e. omega arith)) (f .2))
+
+pub reads-OE : (n : Name) → T (userName n) → Printed (ascii "OE " ++ n) (Acts (OE n))
+unfolding letters
+reads-OE n t =
+    printed (ascii "OE " ++ n) (Acts (OE n)) (part-mnemonic (ascii "OE") tt (name-last n (user-spelt n t))) (lit≤ tt)
+    (says-OE n false false t)
+
+-- The mnemonics with one operand.
+module _ (x : Value Name) (h : Sound x) where
+  pub reads-hold : Printed (ascii "H " ++ valueTold x) (Acts (Hold x))
+  unfolding letters
+  reads-hold = printed (ascii "H " ++ valueTold x) (Acts (Hold x)) (part-mnemonic (ascii "H") tt (value-last x h)) (lit≤ tt) (says-hold x false false h)
+
+  pub reads-MA : Printed (ascii "MA " ++ valueTold x) (Acts (MA x))
+  unfolding letters
+  reads-MA = printed (ascii "MA " ++ valueTold x) (Acts (MA x)) (part-mnemonic (ascii "MA") tt (value-last x h)) (lit≤ tt) (says-MA x false false h)
+
+  pub reads-MR : Printed (ascii "MR " ++ valueTold x) (Acts (MR x))
+  unfolding letters
+  reads-MR = printed (ascii "MR " ++ valueTold x) (Acts (MR x)) (part-mnemonic (ascii "MR") tt (value-last x h)) (lit≤ tt) (says-MR x false false h)
+
+  pub reads-SL : Printed (ascii "SL " ++ valueTold x) (Acts (SL x))
+  unfolding letters
+  reads-SL = printed (ascii "SL " ++ valueTold x) (Acts (SL x)) (part-mnemonic (ascii "SL") tt (value-last x h)) (lit≤ tt) (says-SL x false false h)
+
+  pub reads-PR : Printed (ascii "PR " ++ valueTold x) (Acts (PR x))
+  unfolding letters
+  reads-PR = printed (ascii "PR " ++ valueTold x) (Acts (PR x)) (part-mnemonic (ascii "PR") tt (value-last x h)) (lit≤ tt) (says-PR x false false h)
+
+-- The lines that are the same in every listing.
+pub reads-RT : Printed (ascii "RT") (Acts RT)
+unfolding table all reading tokens longer joins printable uncommented
+reads-RT = record { kind = tt; size = lit≤ tt; reads = refl }
+
+pub reads-E : Printed (ascii "E") (Acts E)
+unfolding table all reading tokens longer joins printable uncommented
+reads-E = record { kind = tt; size = lit≤ tt; reads = refl }
+
+pub reads-H : Printed (ascii "H") (Acts H)
+unfolding table all reading tokens longer joins printable uncommented
+reads-H = record { kind = tt; size = lit≤ tt; reads = refl }
+
+pub reads-disarm : Printed (ascii "OE 0") (Acts Disarm)
+unfolding table all reading tokens longer joins printable uncommented
+reads-disarm = record { kind = tt; size = lit≤ tt; reads = refl }
+
+-- A statement as it is printed, and one that a text can have.
+unfoldable pub told : Statement Name → List ℕ
+told (Set v x) = v ++ (ascii "=" ++ valueTold x)
+told (SetWith v x o y) = v ++ (ascii "=" ++ (valueTold x ++ (getD operators (o - 1) [] ++ valueTold y)))
+told (IC v) = ascii "IC " ++ v
+told (DC v) = ascii "DC " ++ v
+told (BR n c) = ascii "BR " ++ (n ++ conditionTold c)
+told (CL n c) = ascii "CL " ++ (n ++ conditionTold c)
+told RT = ascii "RT"
+told E = ascii "E"
+told H = ascii "H"
+told (Hold x) = ascii "H " ++ valueTold x
+told (OE n) = ascii "OE " ++ n
+told Disarm = ascii "OE 0"
+told (MA x) = ascii "MA " ++ valueTold x
+told (MR x) = ascii "MR " ++ valueTold x
+told (SL x) = ascii "SL " ++ valueTold x
+told (PR x) = ascii "PR " ++ valueTold x
+
+abbrev pub Sayable : Statement Name → Type 0
+Sayable (Set v x) = T (variableName v) × Sound x
+Sayable (SetWith v x o y) = T (variableName v) × Sound x × ((1 ≤ o) × (o ≤ 7)) × Sound y
+Sayable (IC v) = T (variableName v)
+Sayable (DC v) = T (variableName v)
+Sayable (BR n c) = T (userName n) × Fair c
+Sayable (CL n c) = T (userName n) × Fair c
+Sayable RT = Unit {0}
+Sayable E = Unit {0}
+Sayable H = Unit {0}
+Sayable (Hold x) = Sound x
+Sayable (OE n) = T (userName n)
+Sayable Disarm = Unit {0}
+Sayable (MA x) = Sound x
+Sayable (MR x) = Sound x
+Sayable (SL x) = Sound x
+Sayable (PR x) = Sound x
+
+-- Every statement that a text can have is read back from its line.
+pub reads-statement : (a : Statement Name) → Sayable a → Printed (told a) (Acts a)
+unfolding told
+reads-statement (Set v x) h = reads-set v x (h .0) (h .1)
+reads-statement (SetWith v x o y) h = reads-set-with v x o y (h .0) (h .1) (h .2 .0) (h .2 .1) (h .3)
+reads-statement (IC v) h = reads-IC v h
+reads-statement (DC v) h = reads-DC v h
+reads-statement (BR n c) h = reads-BR n c (h .0) (h .1)
+reads-statement (CL n c) h = reads-CL n c (h .0) (h .1)
+reads-statement RT h = reads-RT
+reads-statement E h = reads-E
+reads-statement H h = reads-H
+reads-statement (Hold x) h = reads-hold x h
+reads-statement (OE n) h = reads-OE n h
+reads-statement Disarm h = reads-disarm
+reads-statement (MA x) h = reads-MA x h
+reads-statement (MR x) h = reads-MR x h
+reads-statement (SL x) h = reads-SL x h
+reads-statement (PR x) h = reads-PR x h
+
+-- None of its literals is too big.
+sound-small : (x : Value Name) → Sound x → bigValue x ≡ false
+unfolding bigValue tooBig
+sound-small (Literal z) h = rw (is-true (inRange literals z) h)
+sound-small (Variable w) h = refl
+
+one-small : (x : Value Name) → Sound x → any bigValue (x ∷ []) ≡ false
+unfolding any
+one-small x h = rw (sound-small x h)
+
+two-small : (x y : Value Name) → Sound x → Sound y → any bigValue (x ∷ y ∷ []) ≡ false
+unfolding any
+two-small x y h k = rw (sound-small x h, sound-small y k)
+
+compared-small : (c : Condition Name) → Fair c → any bigValue (compared c) ≡ false
+unfolding any compared
+compared-small Always f = refl
+compared-small (Compare x c y) f = two-small x y (f .0) (f .2)
+
+small : (a : Statement Name) → Sayable a → any bigValue (operands a) ≡ false
+unfolding any operands
+small (Set v x) h = one-small x (h .1)
+small (SetWith v x o y) h = two-small x y (h .1) (h .3)
+small (IC v) h = refl
+small (DC v) h = refl
+small (BR n c) h = compared-small c (h .1)
+small (CL n c) h = compared-small c (h .1)
+small RT h = refl
+small E h = refl
+small H h = refl
+small (Hold x) h = one-small x h
+small (OE n) h = refl
+small Disarm h = refl
+small (MA x) h = one-small x h
+small (MR x) h = one-small x h
+small (SL x) h = one-small x h
+small (PR x) h = one-small x h
+
+-- A line of a listing: its bytes, and that it is heard as what it tells.
+pub record Heard (l : List ℕ) (x : Line) : Type 0 where
+  pub kind : T (all fine l)
+  pub size : length l ≤ 32
+  pub hears : heard l ≡ x
+
+pub hears-statement : (a : Statement Name) → Sayable a → Heard (told a) (Acts a)
+unfolding bigIn declares any
+hears-statement a h =
+    let p = reads-statement a h in
+    record { kind = p .kind; size = p .size; hears = heard-printed (told a) (Acts a) p (small a h) refl }
+
+pub hears-label : (w : Name) → T (userName w) → Heard (ascii "LB " ++ w) (Label w)
+unfolding bigIn declares any
+hears-label w t =
+    let p = reads-label w t in
+    record { kind = p .kind; size = p .size; hears = heard-printed (ascii "LB " ++ w) (Label w) p refl (rw (user-free w t)) }
+
+pub hears-declared : (w : Name) (z : ℤ) → T (userName w) → T (inRange literals z) → Heard (ascii "VA " ++ (w ++ (ascii "=" ++ plain z))) (Declared w z)
+unfolding bigIn declares any tooBig
+hears-declared w z t r =
+    let p = reads-declared w z t r in
+    record {
+      kind = p .kind;
+      size = p .size;
+      hears = heard-printed (ascii "VA " ++ (w ++ (ascii "=" ++ plain z))) (Declared w z) p (rw (is-true (inRange literals z) r)) (rw (user-free w t));
+    }

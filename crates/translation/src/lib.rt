@@ -1,0 +1,1 @@
+// The image of a text, written from its lines.
