@@ -13,7 +13,7 @@ use lib.ListN.{length, getD, drop}
 use lib.Seq.{drop-cons}
 use Rattle.numbers.specs.Tests.{any, anyBelow}
 
-or-true : (b : Bool) → (b || true) ≡ true
+pub or-true : (b : Bool) → (b || true) ≡ true
 or-true true = refl
 or-true false = refl
 

@@ -56,7 +56,7 @@ operand-back Nothing place s g e = refl
 operand-back (Literal z) place s g e = ap (λ (n : ℕ). Literal (signed32 n)) e ∙ ap Literal (signed-digits z g)
 operand-back (Variable v) place s g e = ap Variable e
 
-shapes-apart : (l r : Operand) {n : ℕ} → n ≡ shape l + 4 * shape r → (n % 4 ≡ shape l) × (n / 4 ≡ shape r)
+pub shapes-apart : (l r : Operand) {n : ℕ} → n ≡ shape l + 4 * shape r → (n % 4 ≡ shape l) × (n / 4 ≡ shape r)
 shapes-apart l r e = let h = shape-small l in let k = shape-small r in (omega arith, omega arith)
 
 module _ (c : Cell) (good : GoodCell c) (xs ys : List ℕ) (k : ℕ) (e : length xs ≡ 16 * k) where
@@ -66,36 +66,40 @@ module _ (c : Cell) (good : GoodCell c) (xs ys : List ℕ) (k : ℕ) (e : length
   at : (w o : ℕ) → field w (16 * k + o) image ≡ field w o (cellBytes c ++ ys)
   at w o = field-behind w o xs (cellBytes c ++ ys) e
 
-  operation-back : field 1 (16 * k) image ≡ c .operation
+  pub operation-back : field 1 (16 * k) image ≡ c .operation
   unfolding field cellBytes bytes
   operation-back = ap (λ (n : ℕ). field 1 n image) (sym (add-zero (16 * k))) ∙ at 1 0 ∙ there-and-back 1 (c .operation) (good .operation)
 
-  written-back : field 1 (16 * k + 1) image ≡ c .written
+  pub written-back : field 1 (16 * k + 1) image ≡ c .written
   unfolding field cellBytes bytes
   written-back = at 1 1 ∙ there-and-back 1 (c .written) (good .written)
 
-  selector-back : field 1 (16 * k + 2) image ≡ c .selector
+  pub selector-back : field 1 (16 * k + 2) image ≡ c .selector
   unfolding field cellBytes bytes
   selector-back = at 1 2 ∙ there-and-back 1 (c .selector) (good .selector)
 
-  shapes-back : field 1 (16 * k + 3) image ≡ shape (c .left) + 4 * shape (c .right)
+  pub shapes-back : field 1 (16 * k + 3) image ≡ shape (c .left) + 4 * shape (c .right)
   unfolding field cellBytes bytes
   shapes-back =
       let h = shape-small (c .left) in
       let h′ = shape-small (c .right) in
       at 1 3 ∙ there-and-back 1 (shape (c .left) + 4 * shape (c .right)) (omega arith)
 
-  left-back : field 4 (16 * k + 4) image ≡ operandNumber (c .left)
+  pub left-back : field 4 (16 * k + 4) image ≡ operandNumber (c .left)
   unfolding field cellBytes bytes
   left-back = at 4 4 ∙ there-and-back 4 (operandNumber (c .left)) (operand-below (c .left) (good .left))
 
-  right-back : field 4 (16 * k + 8) image ≡ operandNumber (c .right)
+  pub right-back : field 4 (16 * k + 8) image ≡ operandNumber (c .right)
   unfolding field cellBytes bytes
   right-back = at 4 8 ∙ there-and-back 4 (operandNumber (c .right)) (operand-below (c .right) (good .right))
 
-  target-back : field 2 (16 * k + 12) image ≡ c .target
+  pub target-back : field 2 (16 * k + 12) image ≡ c .target
   unfolding field cellBytes bytes
   target-back = at 2 12 ∙ there-and-back 2 (c .target) (good .target)
+
+  pub rest-back : field 2 (16 * k + 14) image ≡ 0
+  unfolding field cellBytes bytes
+  rest-back = at 2 14 ∙ there-and-back 2 0 (lit< tt)
 
   pub cell-back : cellAt image k ≡ c
   unfolding cellAt
@@ -118,6 +122,14 @@ module _ (c : Cell) (good : GoodCell c) (xs ys : List ℕ) (k : ℕ) (e : length
 pub bytes-key : (w : Name) → Bytes w → length w ≡ 2 → bytes 2 (key w) ≡ w
 unfolding key
 bytes-key w b e = rw (← e) (back-and-there w b)
+
+pub label-bytes : (w : Name) (target : ℕ) → Bytes w → length w ≡ 2 → bytes 2 (key w) ++ bytes 2 target ≡ labelBytes w target
+unfolding labelBytes
+label-bytes w target b e = rw (bytes-key w b e)
+
+pub variable-bytes : (w : Name) (z : ℤ) → Bytes w → length w ≡ 2 → bytes 2 (key w) ++ (bytes 2 0 ++ bytes 4 (digits32 z)) ≡ variableBytes w z
+unfolding variableBytes
+variable-bytes w z b e = rw (bytes-key w b e)
 
 pub name-back : (w : Name) (xs ys : List ℕ) {place : ℕ} → length xs ≡ place → length w ≡ 2 → nameAt (xs ++ (w ++ ys)) place ≡ w
 unfolding nameAt
