@@ -13,7 +13,8 @@ use Rattle.machine.specs.Effects.{effect}
 use Rattle.machine.specs.Turn.{startMachine}
 use Rattle.machine.specs.Events.{events}
 use Rattle.machine.specs.Run.{Course, runFrom}
-use Rattle.bench.specs.Running.{ranAs, over}
+use Rattle.running.specs.Courses.{over}
+use Rattle.bench.specs.Running.{ranAs}
 use Rattle.bench.specs.declared.Ran.{Ran}
 
 -- Text 9: the statement at a place: the line with so many cell lines before it. Past the last there is none, and a run has ended there.

@@ -1,23 +1,19 @@
 -- Document 01, "Events and records" and "Refusal numbers": the run of an image, and its answer.
 -- Assumes nothing.
 use mathlib.Core.Bool.{Bool, cond}
-use mathlib.Core.List.{List, [], _∷_, _++_}
+use mathlib.Core.List.{List, [], _∷_}
 use Prim.Native.Nat.{ℕ, _*_, _/_}
 use lib.Dec.{eqb, ltb}
 use lib.IntN.{ℤ, pos}
-use lib.ListN.{length, drop, replicate}
+use lib.ListN.{length, replicate}
 use Rattle.numbers.specs.Tests.{lowest}
-use Rattle.program.specs.Cells.{same, statementOf}
-use Rattle.image.specs.Layout.{cellCount, cellAt, startValues}
 use Rattle.image.specs.Check.{checked}
 use Rattle.machine.specs.declared.Machine.{Machine}
 use Rattle.machine.specs.declared.Motion.{Motion}
 use Rattle.machine.specs.declared.Motion.the-variants.{Still, To, Slewing}
-use Rattle.machine.specs.declared.Effect.{Effect}
-use Rattle.machine.specs.Effects.{effect}
-use Rattle.machine.specs.Turn.{startMachine}
-use Rattle.machine.specs.Events.{events, badScript, badEvents, firstBadEvent}
-use Rattle.machine.specs.Run.{Course, runFrom}
+use Rattle.machine.specs.Events.{badScript, badEvents, firstBadEvent}
+use Rattle.machine.specs.Run.{Course}
+use Rattle.running.specs.Courses.{imageCourse, over}
 use Rattle.bench.specs.declared.Checked.{Checked}
 use Rattle.bench.specs.declared.State.{State}
 use Rattle.bench.specs.declared.Ran.{Ran}
@@ -25,14 +21,6 @@ use Rattle.bench.specs.declared.Ran.{Ran}
 -- Refusals 11 to 15, Refusals 23: the answer to checking.
 unfoldable pub checkedAs : List ℕ → Checked
 checkedAs s = record { number = checked s }
-
--- Turn 7: what the statement at the machine's next cell does.
-unfoldable pub cellActs : List ℕ → Machine → Effect
-cellActs s m = effect same same (m .variables) (m .kept) (m .hold) (statementOf (cellAt s (m .next)))
-
--- Turn 6, Variables 3: the run of an image from its start.
-unfoldable pub imageCourse : List ℕ → List ℕ → ℕ → Course
-imageCourse s script budget = runFrom (cellActs s) (cellCount s) budget 0 (events script) (startMachine (startValues s))
 
 -- Turn 2: the motion's number and value in an answer: 0 still, 1 to a target, 2 slewing.
 unfoldable pub motionNumber : Motion → ℕ
@@ -114,10 +102,6 @@ ran s script budget room =
     let course = ranAs (imageCourse s script budget) in
     let refused = refusedAs (runRefusal s script budget room) (refusalIndex (runRefusal s script budget room) script) in
     cond (eqb (runRefusal s script budget room) 0) course refused
-
--- Events 8: the records of a run over what a buffer held.
-unfoldable pub over : Course → List ℕ → List ℕ
-over c buffer = c .records ++ drop (length (c .records)) buffer
 
 -- Events 8, Refusals 24: what the record buffer holds after a run.
 unfoldable pub ranInto : List ℕ → List ℕ → ℕ → List ℕ → List ℕ

@@ -1,4 +1,11 @@
 // The machine: its state by value, what a statement does to it, and the events that reach it.
+pub mod calls;
+pub mod effects;
+pub mod events;
+pub mod records;
+pub mod start;
+pub mod turn;
+pub mod values;
 
 // Where the axis goes: a target, or a velocity.
 pub enum Motion {
@@ -56,7 +63,7 @@ pub enum Effect {
 // What a turn records: kind 0 is nothing.
 pub struct Record {
     pub kind: u8,
-    pub number: u8,
+    pub number: u32,
     pub value: i32,
 }
 

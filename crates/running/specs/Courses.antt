@@ -1,0 +1,25 @@
+-- Document 01, "One turn" and "Events and records": the run of an image.
+-- Assumes nothing.
+use mathlib.Core.List.{List, _++_}
+use Prim.Native.Nat.{ℕ}
+use lib.ListN.{length, drop}
+use Rattle.program.specs.Cells.{same, statementOf}
+use Rattle.image.specs.Layout.{cellCount, cellAt, startValues}
+use Rattle.machine.specs.declared.Machine.{Machine}
+use Rattle.machine.specs.declared.Effect.{Effect}
+use Rattle.machine.specs.Effects.{effect}
+use Rattle.machine.specs.Turn.{startMachine}
+use Rattle.machine.specs.Events.{events}
+use Rattle.machine.specs.Run.{Course, runFrom}
+
+-- Turn 7: what the statement at the machine's next cell does.
+unfoldable pub cellActs : List ℕ → Machine → Effect
+cellActs s m = effect same same (m .variables) (m .kept) (m .hold) (statementOf (cellAt s (m .next)))
+
+-- Turn 6, Variables 3: the run of an image from its start.
+unfoldable pub imageCourse : List ℕ → List ℕ → ℕ → Course
+imageCourse s script budget = runFrom (cellActs s) (cellCount s) budget 0 (events script) (startMachine (startValues s))
+
+-- Events 8: the records of a run over what a buffer held.
+unfoldable pub over : Course → List ℕ → List ℕ
+over c buffer = c .records ++ drop (length (c .records)) buffer
