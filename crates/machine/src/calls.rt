@@ -5,6 +5,7 @@ ghost use Rattle.machine.specs.Turn.{keep, release, lastPlace};
 use crate::Places;
 
 impl Places {
+    // The most places that are kept.
     pub const MOST: u8 = 8;
 }
 
@@ -43,6 +44,7 @@ pub fn release(places: [u16; 8], kept: u8) -> Places
     }
 }
 
+// The place kept last.
 pub fn last_place(places: [u16; 8], kept: u8) -> u16
     requires { ⌜ 0 < kept ⌝ }
     ensures { λ r. ⌜ r ≡ lastPlace places kept ⌝ }

@@ -36,6 +36,7 @@ impl Event {
 
     pub const PLACE: u8 = 3;
 
+    // How many inputs there are.
     pub const INPUTS: u8 = 4;
 
     // The most events of a script.
@@ -50,6 +51,7 @@ impl Event {
         (self.kind == Self::INPUT) & (((1 <= self.number) & (self.number <= Self::INPUTS)) & fits)
     }
 
+    // A move arrives: the event has neither number nor value.
     fn is_arrival(self) -> bool
         ensures { λ r. ⌜ r ≡ (eqb (self .kind) 2 && (eqb (self .number) 0 && eqZ (self .value) (pos 0))) ⌝ }
     {
@@ -57,6 +59,7 @@ impl Event {
         (self.kind == Self::ARRIVAL) & ((self.number == 0) & (value == 0))
     }
 
+    // The axis is at a place: no number, and a value in the range of P.
     fn is_place(self) -> bool
         ensures { λ r. ⌜ r ≡ (eqb (self .kind) 3 && (eqb (self .number) 0 && inRange literals (self .value))) ⌝ }
     {
@@ -65,6 +68,7 @@ impl Event {
         (self.kind == Self::PLACE) & ((self.number == 0) & known)
     }
 
+    // An event of one of the kinds, with zeros where zeros stand.
     pub fn is_good(self) -> bool
         ensures { λ r. ⌜ r ≡ goodEvent self ⌝ }
     {
@@ -87,6 +91,7 @@ pub fn event_at(s: &[u8], k: usize) -> Event
     }
 }
 
+// How many events the script has.
 pub fn event_count(s: &[u8]) -> usize
     ensures { λ r. ⌜ r ≡ eventCount (now (s .entry)) ⌝ }
 {
@@ -129,7 +134,7 @@ pub fn first_bad_event(s: &[u8]) -> usize
     k
 }
 
-// An input that is 0 or 1.
+// An input, which is 0 or 1, as a number without a sign.
 fn bit(vars: &[i32], v: u32) -> u32
     requires { ⌜ Bit (read (now vars) v) ⌝ }
     ensures { λ r. ⌜ pos r ≡ read (now (vars .entry)) v ⌝ }

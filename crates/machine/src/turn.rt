@@ -81,6 +81,7 @@ impl Motion {
 }
 
 impl Machine {
+    // The numbers of variables are below this.
     pub const VARIABLES: u32 = 64;
 
     // A store, which clears EF where it goes to ER.
@@ -171,6 +172,7 @@ impl Machine {
         self
     }
 
+    // The handler is this cell, or none.
     fn with_handler(mut self, cell: u16) -> Machine
         ensures { λ r. ⌜ r ≡ withHandler cell self ⌝ }
     {
@@ -178,7 +180,7 @@ impl Machine {
         self
     }
 
-    // The turn ends on this cell, or where the machine stands, or on the following cell with a record.
+    // The turn ends on this cell.
     fn at(mut self, cell: u16) -> Turned
         ensures { λ r. ⌜ r ≡ turned (at cell self) nothing ⌝ }
     {
@@ -186,6 +188,7 @@ impl Machine {
         self.here()
     }
 
+    // The turn ends where the machine stands.
     fn here(self) -> Turned
         ensures { λ r. ⌜ r ≡ turned self nothing ⌝ }
     {
@@ -196,6 +199,7 @@ impl Machine {
         }
     }
 
+    // The turn ends on the following cell, with a record.
     fn onward(mut self, wrote: Record) -> Turned
         requires { ⌜ self .next < 65535 ⌝ }
         ensures { λ r. ⌜ r ≡ turned (onward self) wrote ⌝ }
@@ -236,6 +240,18 @@ impl Machine {
         }
     }
 
+    // The axis moves, by a statement of this kind and value.
+    fn moved(self, motion: Motion, kind: u8, value: i32) -> Turned
+        requires { ⌜ self .next < 65535 ⌝ }
+        ensures { λ r. ⌜ r ≡ turned (onward (inMotion motion self)) (recorded kind 0 value) ⌝ }
+    {
+        self.in_motion(motion).onward(Record {
+            kind: kind,
+            number: 0,
+            value: value,
+        })
+    }
+
     // The next state, and what the turn records, of a program with so many cells.
     pub fn turn(self, cell: Cell, cells: u16) -> Turned
         requires { ⌜ self .next < 65535 ⌝ }
@@ -265,17 +281,5 @@ impl Machine {
                 value: value,
             }),
         }
-    }
-
-    // The axis moves, by a statement of this kind and value.
-    fn moved(self, motion: Motion, kind: u8, value: i32) -> Turned
-        requires { ⌜ self .next < 65535 ⌝ }
-        ensures { λ r. ⌜ r ≡ turned (onward (inMotion motion self)) (recorded kind 0 value) ⌝ }
-    {
-        self.in_motion(motion).onward(Record {
-            kind: kind,
-            number: 0,
-            value: value,
-        })
     }
 }
