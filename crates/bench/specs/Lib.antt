@@ -1,4 +1,5 @@
 pub mod Translating
 pub mod Running
 pub mod Following
+pub mod Calls
 pub mod Sheet

@@ -1,4 +1,5 @@
 // The bench: translate a text, check an image, run an image. Its answers are plain data.
+ghost use Rattle.bench.specs.Calls.{Checks};
 
 // Number 0, and the image's length; or the refusal with its line.
 pub struct Translated {
@@ -32,4 +33,13 @@ pub struct Ran {
     pub turns: u64,
     pub records: usize,
     pub state: State,
+}
+
+// Checks an image: any bytes, of any length.
+pub fn check(image: &[u8]) -> Checked
+    ensures { λ r. ⌜ Checks (now (image .entry)) r ⌝ }
+{
+    Checked {
+        number: image::checked(image),
+    }
 }

@@ -1,0 +1,22 @@
+-- `check` meets its contract: its number is the one that the image is checked as.
+use mathlib.Core.Path.{ap}
+use Prim.Native.Nat.{ℕ}
+use Rattle.bench.specs.Running.{checkedAs}
+use borrow.Author.Needs.{needs}
+use Rattle.bench.proofs.check.Statement.{statement}
+use Rattle.bench.proofs.check.Tie as tie
+use Rattle.bench.proofs.check.Reads as reads
+use Rattle.bench.proofs.check.Lts as lts
+use Rattle.image.proofs.checked.Reads as checked-reads
+
+-- src/lib.rt:43:17
+checked-requires : tie.Need-checked-requires
+checked-requires c κs = search needs
+
+-- src/lib.rt:39:1
+returns : tie.Need-returns
+unfolding checkedAs
+returns c = record { answers = ap (λ (n : ℕ). record { number = n }) (c .checked .ensures) }
+
+pub check-spec : {M : Type 1} → statement M
+check-spec = tie.close (tie.spec checked-requires returns)
