@@ -12,7 +12,6 @@ use Rattle.numbers.specs.Bytes.{field}
 use Rattle.numbers.specs.Tests.{any, anyBelow, lowest, eqList}
 use Rattle.program.specs.Names.{Name, userName}
 use Rattle.program.specs.Variables.{inRange, literals, mostCells, mostLabels, mostVariables}
-use Rattle.text.specs.Forms as F
 use Rattle.image.specs.Layout.{imageLength, firstLabelPlace, wholeLength, cellCount, labelCount, variableCount, labelPlace, variablePlace, startValue, nameAt}
 use Rattle.image.specs.Check.{badLength, badEdition, badTrailer, badCell, badCells, badName, badTarget, badStart, badRecords, imageFaults, checked, recordPlace, recordName, layouts, fits}
 use Rattle.listing.proofs.Kit.{true-is, neither, none-below}
@@ -27,6 +26,14 @@ pub record Accepted (s : List ℕ) : Type 0 where
   pub few-labels : labelCount s ≤ 160
   pub few-variables : variableCount s ≤ 32
 
+-- The five tests of an image, none of which holds.
+pub record Faultless (s : List ℕ) : Type 0 where
+  pub size : badLength s ≡ false
+  pub version : badEdition s ≡ false
+  pub trailer : badTrailer s ≡ false
+  pub cells : badCells s ≡ false
+  pub records : badRecords s ≡ false
+
 -- No fault is the lowest where none is there.
 lowest-step : (n : ℕ) (b : Bool) (bs : List Bool) → 0 < n → lowest n (b ∷ bs) ≡ 0 → (b ≡ false) × (lowest (suc n) bs ≡ 0)
 unfolding lowest
@@ -38,11 +45,11 @@ module _ (s : List ℕ) where
   unfolding badName
   named-record k e = true-is (userName (recordName s k)) (not-false (userName (recordName s k)) (neither (not (userName (recordName s k))) (anyBelow k (λ j. eqList (recordName s j) (recordName s k))) e .0))
 
-  record-label : (k : ℕ) → k < labelCount s → recordName s k ≡ nameAt s (labelPlace s k)
+  pub record-label : (k : ℕ) → k < labelCount s → recordName s k ≡ nameAt s (labelPlace s k)
   unfolding recordName recordPlace
   record-label k h = rw (lt-ltb k (labelCount s) h)
 
-  record-variable : (k : ℕ) → recordName s (labelCount s + k) ≡ nameAt s (variablePlace s k)
+  pub record-variable : (k : ℕ) → recordName s (labelCount s + k) ≡ nameAt s (variablePlace s k)
   unfolding recordName recordPlace
   record-variable k =
       let d : (labelCount s + k) - labelCount s ≡ k = omega arith in
@@ -71,26 +78,32 @@ module _ (s : List ℕ) where
       let b = neither (ltb 160 (labelCount s)) v (a .1) in
       (ltb-false 256 (cellCount s) (a .0), ltb-false 160 (labelCount s) (b .0), ltb-false 32 (variableCount s) (b .1))
 
-  pub accepted : checked s ≡ 0 → Accepted s
-  unfolding checked imageFaults badCells badRecords
-  accepted e =
+  pub faultless : checked s ≡ 0 → Faultless s
+  unfolding checked imageFaults
+  faultless e =
       let a = lowest-step 21 (badLength s) _ (lit< tt) e in
       let b = lowest-step 22 (badEdition s) _ (lit< tt) (a .1) in
       let c = lowest-step 23 (badTrailer s) _ (lit< tt) (b .1) in
       let d = lowest-step 24 (badCells s) _ (lit< tt) (c .1) in
       let f = lowest-step 25 (badRecords s) _ (lit< tt) (d .1) in
+      record { size = a .0; version = b .0; trailer = c .0; cells = d .0; records = f .0 }
+
+  pub accepted : checked s ≡ 0 → Accepted s
+  unfolding badCells badRecords
+  accepted e =
+      let f = faultless e in
       let names = anyBelow (labelCount s + variableCount s) (badName s) in
       let targets = anyBelow (labelCount s) (badTarget s) in
       let starts = anyBelow (variableCount s) (badStart s) in
-      let g = neither names (targets || starts) (f .0) in
+      let g = neither names (targets || starts) (f .records) in
       let h = neither targets starts (g .1) in
       let good = none-below (labelCount s + variableCount s) (badName s) (g .0) in
-      let n = few (c .0) in
+      let n = few (f .trailer) in
       record {
         label-name = λ k l. subst (λ (w : Name). T (userName w)) (record-label k l) (named-record k (good k (omega arith)));
         variable-name = λ k l. subst (λ (w : Name). T (userName w)) (record-variable k) (named-record (labelCount s + k) (good (labelCount s + k) (omega arith)));
         start-value = λ k l. started k (none-below (variableCount s) (badStart s) (h .1) k l);
-        layout = λ k l. fitted k (none-below (cellCount s) (badCell s) (d .0) k l);
+        layout = λ k l. fitted k (none-below (cellCount s) (badCell s) (f .cells) k l);
         few-cells = n .0;
         few-labels = n .1;
         few-variables = n .2;

@@ -30,11 +30,11 @@ use Rattle.listing.proofs.Accepted.{Accepted}
 
 -- What follows from each test of a list follows where one of them holds.
 module _ {A : Type 0} (p : A → Bool) (Q : Type 0) where
-  abbrev Each : List A → Type 0
+  abbrev pub Each : List A → Type 0
   Each [] = Unit {0}
   Each (x ∷ xs) = (T (p x) → Q) × Each xs
 
-  from-any : (xs : List A) → Each xs → T (any p xs) → Q
+  pub from-any : (xs : List A) → Each xs → T (any p xs) → Q
   unfolding any
   from-any [] e t = absurd t
   from-any (x ∷ xs) e t = ⊎-elim (e .0) (from-any xs (e .1)) (either (p x) (any p xs) t)
@@ -105,15 +105,16 @@ module _ (s : List ℕ) (a : Accepted s) where
       rw (ne-eqb (c .selector) 0 (λ e. omega arith)) (l, h, r)
 
 -- The tests on a cell one by one.
-record Fit (s : List ℕ) (place : ℕ) (u : Use) : Type 0 where
-  operation : field 1 place s ≡ u .operation
-  written : T (goodWritten (variableCount s) (u .writes) (field 1 (place + 1) s))
-  selector : T (goodSelector (u .selectors) (field 1 (place + 2) s))
-  left : T (goodOperand (variableCount s) (u .left) (field 1 (place + 3) s % 4) (field 4 (place + 4) s))
-  right : T (goodOperand (variableCount s) (u .right) (field 1 (place + 3) s / 4) (field 4 (place + 8) s))
-  target : T (goodTarget s (u .operation) (u .target) (field 2 (place + 12) s))
+pub record Fit (s : List ℕ) (place : ℕ) (u : Use) : Type 0 where
+  pub operation : field 1 place s ≡ u .operation
+  pub written : T (goodWritten (variableCount s) (u .writes) (field 1 (place + 1) s))
+  pub selector : T (goodSelector (u .selectors) (field 1 (place + 2) s))
+  pub left : T (goodOperand (variableCount s) (u .left) (field 1 (place + 3) s % 4) (field 4 (place + 4) s))
+  pub right : T (goodOperand (variableCount s) (u .right) (field 1 (place + 3) s / 4) (field 4 (place + 8) s))
+  pub target : T (goodTarget s (u .operation) (u .target) (field 2 (place + 12) s))
+  pub rest : field 2 (place + 14) s ≡ 0
 
-fitting : (s : List ℕ) (place : ℕ) (u : Use) → T (fits s place u) → Fit s place u
+pub fitting : (s : List ℕ) (place : ℕ) (u : Use) → T (fits s place u) → Fit s place u
 unfolding fits
 fitting s place u t =
     let tested = goodTarget s (u .operation) (u .target) (field 2 (place + 12) s) in
@@ -128,7 +129,15 @@ fitting s place u t =
     let d = both left (right && ended) (c .1) in
     let e = both right ended (d .1) in
     let f = both tested (eqb (field 2 (place + 14) s) 0) (e .1) in
-    record { operation = eqb→eq (field 1 place s) (u .operation) (a .0); written = b .0; selector = c .0; left = d .0; right = e .0; target = f .0 }
+    record {
+      operation = eqb→eq (field 1 place s) (u .operation) (a .0);
+      written = b .0;
+      selector = c .0;
+      left = d .0;
+      right = e .0;
+      target = f .0;
+      rest = eqb→eq (field 2 (place + 14) s) 0 (f .1);
+    }
 
 module _ (s : List ℕ) (a : Accepted s) (k : ℕ) where
   -- The statement of the cell is one that a text can have.

@@ -38,12 +38,12 @@ clear l t = go (faulty l) (elim (reading l) [ none ↦ Blank | some x ↦ x ]) t
   go false x t = tt
 
 module _ {A : Type 0} (p : A → Bool) where
-  all-listed : (from n : ℕ) (f : ℕ → A) → ((k : ℕ) → T (p (f k))) → T (all p (listed from n f))
+  pub all-listed : (from n : ℕ) (f : ℕ → A) → ((k : ℕ) → T (p (f k))) → T (all p (listed from n f))
   unfolding all listed
   all-listed from zero f h = tt
   all-listed from (suc n) f h = both-of (p (f from)) (all p (listed (suc from) n f)) (h from) (all-listed (suc from) n f h)
 
-  all-flat : (g : ℕ → List A) (ks : List ℕ) → ((k : ℕ) → T (all p (g k))) → T (all p (flatMap g ks))
+  pub all-flat : (g : ℕ → List A) (ks : List ℕ) → ((k : ℕ) → T (all p (g k))) → T (all p (flatMap g ks))
   unfolding all flatMap
   all-flat g [] h = tt
   all-flat g (k ∷ ks) h = all-append p (g k) (flatMap g ks) (h k) (all-flat g ks h)

@@ -5,11 +5,12 @@ use mathlib.Core.Bool.{Bool, true, false, cond, _||_, not}
 use mathlib.Core.List.{List, [], _∷_, _++_}
 use mathlib.Core.Logic.{_⊎_, inl, inr, ⊎-elim}
 use Prim.Native.Nat.{ℕ, zero, suc, _≤_, _<_}
+use native.Mathlib.Nat.{eq-or-lt-of-le}
 use native.Mathlib.Omega.{arith}
 use borrow.Author.Tests.{ltb-true, ltb-false}
 use lib.Dec.{T, eqb, ltb}
 use lib.ListN.{length, getD}
-use Rattle.numbers.specs.Tests.{all, anyBelow, firstBelow, eqList, numbered}
+use Rattle.numbers.specs.Tests.{all, any, anyBelow, firstBelow, eqList, numbered}
 use Rattle.program.proofs.Keys.{both, both-of, either, eqList-eq}
 
 -- A test that holds is true, one that does not is false, and back.
@@ -63,6 +64,12 @@ module _ {A : Type 0} where
   all-at p [] d i h l = absurd (omega arith)
   all-at p (x ∷ a) d zero h l = both (p x) (all p a) h .0
   all-at p (x ∷ a) d (suc i) h l = all-at p a d i (both (p x) (all p a) h .1) (omega arith)
+
+  -- What follows from the test on any element follows where it holds of some.
+  pub from-some : (p : A → Bool) (Q : Type 0) → ((x : A) → T (p x) → Q) → (xs : List A) → T (any p xs) → Q
+  unfolding any
+  from-some p Q f [] t = absurd t
+  from-some p Q f (x ∷ xs) t = ⊎-elim (f x) (from-some p Q f xs) (either (p x) (any p xs) t)
 
 -- What holds of all words of a table holds of a word that has a place there.
 numbered-step : (t : Bool) (r : ℕ) → (cond t 1 (cond (eqb r 0) 0 (suc r)) ≡ 0 → ⊥) → T t ⊎ (r ≡ 0 → ⊥)
@@ -127,3 +134,20 @@ first-found (suc n) p h = step (ltb (firstBelow n p) n) (p n) refl (first-most n
   step false true e m d = omega arith
   step false false e m (inl b) = absurd (let l = ltb-false (firstBelow n p) n e in omega arith)
   step false false e m (inr b) = absurd b
+
+-- None before it passes.
+pub first-before : (n : ℕ) (p : ℕ → Bool) (k : ℕ) → k < firstBelow n p → p k ≡ false
+unfolding firstBelow
+first-before zero p k h = absurd (omega arith)
+first-before (suc n) p k h = step (ltb (firstBelow n p) n) (p n) refl refl (first-most n p) (first-before n p k) h where
+  last : p n ≡ false → (k < n → p k ≡ false) → (k ≡ n) ⊎ (k < n) → p k ≡ false
+  last f g (inl e) = rw e f
+  last f g (inr l) = g l
+
+  step : (t u : Bool) → ltb (firstBelow n p) n ≡ t → p n ≡ u → firstBelow n p ≤ n → (k < firstBelow n p → p k ≡ false)
+      → k < cond (t || u) (firstBelow n p) (suc n) → p k ≡ false
+  step true u e f m g l = g l
+  step false true e f m g l = g l
+  step false false e f m g l =
+      let b = ltb-false (firstBelow n p) n e in
+      last f (λ i. g (omega arith)) (eq-or-lt-of-le (omega arith))

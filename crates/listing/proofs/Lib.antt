@@ -11,3 +11,15 @@ pub mod Cells
 pub mod Said
 pub mod Clear
 pub mod Size
+pub mod Lists
+pub mod Recorded
+pub mod Order
+pub mod Counted
+pub mod Declaring
+pub mod Placed
+pub mod Resolved
+pub mod Named
+pub mod Pieces
+pub mod Image
+pub mod Clean
+pub mod Back

@@ -16,7 +16,7 @@ const VARIABLES: [u8; 40] = *b"R1R2R3R4P\0A\0D\0VIVMERO1O2O3MVEFI1I2I3I4IN";
 const MNEMONICS: [u8; 28] = *b"LBVAICDCBRCLRTE\0H\0OEMAMRSLPR";
 
 // The place of a name in a table, from 1; 0 where it has none.
-fn place_in(table: &[u8], key: u16) -> usize
+pub fn place_in(table: &[u8], key: u16) -> usize
     ensures { λ r. ⌜ r ≡ numbered (namesOf (now (table .entry))) (nameOf key) ⌝ }
 {
     for i in 0..table.len() / NAME {

@@ -1,1 +1,113 @@
 // The run of an image, turn by turn.
+ghost use mathlib.Core.Path.{_≡_};
+ghost use mathlib.Core.Bool.{false};
+ghost use Prim.Native.Nat.{_*_, _≤_};
+ghost use lib.ListN.{length};
+ghost use Rattle.image.specs.Layout.{startValues};
+ghost use Rattle.machine.specs.Turn.{startMachine};
+ghost use Rattle.machine.specs.Events.{badScript, badEvents, eventCount};
+ghost use Rattle.machine.specs.Code.{Inputs};
+ghost use Rattle.running.specs.Courses.{imageCourse};
+ghost use Rattle.running.specs.Code.{ReachedBy, EndedAs};
+use machine::Machine;
+use machine::events::event_at;
+use machine::events::event_count;
+use machine::records::write_record;
+
+// The machine once the events of a turn have acted, and the number of the first event after them.
+pub struct Reached {
+    pub machine: Machine,
+    pub left: usize,
+}
+
+// How a run went: why it ended, after how many turns, with how many bytes of records, and in which state.
+pub struct Ended {
+    pub reason: u8,
+    pub turns: u32,
+    pub bytes: usize,
+    pub machine: Machine,
+}
+
+impl Ended {
+    // Why a run ends: the next cell is past the last, an error finds no place free for the handler's call, the budget is used.
+    pub const PAST_THE_LAST: u8 = 1;
+
+    pub const STOPPED: u8 = 2;
+
+    pub const BUDGET_USED: u8 = 3;
+}
+
+// The machine before the first turn, with the start values of the image.
+fn started(image: &[u8]) -> Machine
+    ensures { λ r. ⌜ r ≡ startMachine (startValues (now (image .entry))) ⌝ }
+{
+    let count = image::variable_count(image);
+    let mut machine = Machine::fresh();
+    let mut k: u16 = 0;
+    while k < count {
+        machine = machine.with_start(k, image::start_value(image, k));
+        k += 1;
+    }
+    machine
+}
+
+// The events of this turn act in order, from the event with this number on.
+fn reach(events: &[u8], turn: u32, first: usize, machine: Machine) -> Reached
+    requires { ⌜ (eventCount (now events) ≤ 4096) × (badEvents (now events) ≡ false) × (first ≤ eventCount (now events)) × Inputs (machine .variables) ⌝ }
+    ensures { λ r. ⌜ ReachedBy (now (events .entry)) turn first machine r ⌝ }
+{
+    let count = event_count(events);
+    let mut here = machine;
+    let mut k = first;
+    while k < count {
+        let event = event_at(events, k);
+        if event.turn != turn {
+            return Reached {
+                machine: here,
+                left: k,
+            };
+        }
+        here = here.happens(event);
+        k += 1;
+    }
+    Reached {
+        machine: here,
+        left: k,
+    }
+}
+
+// The run of an image, against the events of a script and within a budget of turns. Its records go to the buffer.
+pub fn course(image: &[u8], events: &[u8], budget: u32, records: &mut [u8]) -> Ended
+    requires { ⌜ (badScript (now events) ≡ false) × (badEvents (now events) ≡ false) × (12 * budget ≤ length (now records)) ⌝ }
+    ensures { λ r. ⌜ EndedAs (imageCourse (now (image .entry)) (now (events .entry)) budget) r (now (records .entry)) (now (records .exit)) ⌝ }
+{
+    let cells = image::cell_count(image);
+    let mut machine = started(image);
+    let mut turns: u32 = 0;
+    let mut event: usize = 0;
+    let mut bytes: usize = 0;
+    let reason: u8 = loop {
+        if cells <= machine.next {
+            break Ended::PAST_THE_LAST;
+        }
+        if budget <= turns {
+            break Ended::BUDGET_USED;
+        }
+        let reached = reach(events, turns, event, machine);
+        let here = reached.machine;
+        let turned = here.turn(image::cell_at(image, here.next), cells);
+        bytes = write_record(records, bytes, turns, turned.wrote);
+        machine = turned.machine;
+        event = reached.left;
+        turns += 1;
+        if turned.stops {
+            break Ended::STOPPED;
+        }
+    };
+    Ended {
+        reason: reason,
+        turns: turns,
+        bytes: bytes,
+        machine: machine,
+    }
+}

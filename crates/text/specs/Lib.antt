@@ -2,3 +2,4 @@ pub mod Lines
 pub mod Tokens
 pub mod Forms
 pub mod Faults
+pub mod Code

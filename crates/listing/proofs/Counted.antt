@@ -1,0 +1,79 @@
+-- The listing has as many lines of each kind as its image has cells, labels and variables.
+-- Assumes nothing.
+use mathlib.Core.Path.{_≡_, refl, ap, _∙_}
+use mathlib.Core.Bool.{Bool, true, false, cond}
+use mathlib.Core.List.{List, [], _∷_, _++_, flatMap}
+use Prim.Native.Nat.{ℕ, suc, _+_}
+use native.Mathlib.Omega.{arith}
+use lib.ListN.{length}
+use Rattle.text.specs.Forms.{Line}
+use Rattle.text.specs.Faults.{count, makesCell, makesLabel, makesVariable}
+use Rattle.image.specs.Layout.{cellCount, labelCount, variableCount}
+use Rattle.listing.specs.Listed.{variableSays, labelsSay, listedLines}
+use Rattle.listing.proofs.Lists.{length-flat, flat-none}
+use Rattle.listing.proofs.Recorded.{Recorded}
+use Rattle.listing.proofs.Order.{labelLine, cellLine, body, front, front-body, of-labels, only-cells, only-variables, no-label}
+
+-- A line that passes the test, as one thing.
+abbrev one : (Line → Bool) → Line → List ℕ
+one p x = cond (p x) (0 ∷ []) []
+
+pub count-one : (p : Line → Bool) (xs : List Line) → count p xs ≡ length (flatMap (one p) xs)
+unfolding count flatMap
+count-one p [] = refl
+count-one p (x ∷ xs) = rw (count-one p xs) (go (p x) (flatMap (one p) xs))
+  where
+    go : (b : Bool) (l : List ℕ) → cond b (suc (length l)) (length l) ≡ length (cond b (0 ∷ []) [] ++ l)
+    go true l = refl
+    go false l = refl
+
+pub count-append : (p : Line → Bool) (xs ys : List Line) → count p (xs ++ ys) ≡ count p xs + count p ys
+unfolding count
+count-append p [] ys = omega arith
+count-append p (x ∷ xs) ys = rw (count-append p xs ys) (go (p x) (count p xs) (count p ys))
+  where
+    go : (b : Bool) (m n : ℕ) → cond b (suc (m + n)) (m + n) ≡ cond b (suc m) m + n
+    go true m n = omega arith
+    go false m n = refl
+
+-- None of the labels of a target makes a cell.
+pub labels-no-cell : (s : List ℕ) (t : ℕ) → count makesCell (labelsSay s t) ≡ 0
+unfolding makesCell
+labels-no-cell s t = count-one makesCell (labelsSay s t) ∙ ap length (no-label s (one makesCell) (λ w. refl) t)
+
+module _ (s : List ℕ) (r : Recorded s) where
+  count-both : (p : Line → Bool) → count p (listedLines s) ≡ length (flatMap (one p) (front s)) + length (flatMap (one p) (body s))
+  count-both p =
+      let a = count-one p (front s) in
+      let b = count-one p (body s) in
+      ap (count p) (front-body s) ∙ count-append p (front s) (body s) ∙ omega arith
+
+  pub cells-counted : count makesCell (listedLines s) ≡ cellCount s
+  unfolding makesCell variableSays
+  cells-counted =
+      let f = one makesCell in
+      let a = ap length (only-variables s f) in
+      let b = ap length (flat-none (λ k. f (variableSays s k)) 0 (variableCount s) (λ k l m. refl)) in
+      let c = ap length (only-cells s f (λ w. refl)) in
+      let d = length-flat (λ k. f (cellLine s k)) 0 (cellCount s) (λ k. refl) in
+      count-both makesCell ∙ omega arith
+
+  pub labels-counted : count makesLabel (listedLines s) ≡ labelCount s
+  unfolding makesLabel variableSays
+  labels-counted =
+      let f = one makesLabel in
+      let a = ap length (only-variables s f) in
+      let b = ap length (flat-none (λ k. f (variableSays s k)) 0 (variableCount s) (λ k l m. refl)) in
+      let c = ap length (of-labels s r f (λ w. refl)) in
+      let d = length-flat (λ k. f (labelLine s k)) 0 (labelCount s) (λ k. refl) in
+      count-both makesLabel ∙ omega arith
+
+  pub variables-counted : count makesVariable (listedLines s) ≡ variableCount s
+  unfolding makesVariable variableSays
+  variables-counted =
+      let f = one makesVariable in
+      let a = ap length (only-variables s f) in
+      let b = length-flat (λ k. f (variableSays s k)) 0 (variableCount s) (λ k. refl) in
+      let c = ap length (only-cells s f (λ w. refl)) in
+      let d = ap length (flat-none (λ k. f (cellLine s k)) 0 (cellCount s) (λ k l m. refl)) in
+      count-both makesVariable ∙ omega arith

@@ -1,0 +1,118 @@
+-- Laws of lists made for the numbers from one on: what is made of each, joined, and which of them a test finds.
+-- Assumes nothing.
+use mathlib.Core.Path.{_≡_, refl, sym, ap, ap₂, _∙_}
+use mathlib.Core.Bool.{Bool, false, _||_}
+use mathlib.Core.List.{List, [], _∷_, _++_, flatMap, append-assoc, append-nil}
+use mathlib.Core.Logic.{_⊎_, inl, inr}
+use Prim.Native.Nat.{ℕ, zero, suc, _+_, _≤_, _<_}
+use native.Mathlib.Nat.{eq-or-lt-of-le, suc-add, zero-add, add-zero}
+use native.Mathlib.Omega.{arith}
+use lib.Dec.{T}
+use lib.ListN.{length, length-append}
+use Rattle.numbers.specs.Tests.{any, listed, joined}
+use Rattle.image.proofs.Any.{or-assoc}
+use Rattle.listing.proofs.Kit.{left-of, right-of}
+
+-- The numbers from one on.
+abbrev pub numbers : ℕ → ℕ → List ℕ
+numbers from n = listed from n (λ k. k)
+
+module _ {A B : Type 0} (f : A → List B) where
+  pub flat-append : (xs ys : List A) → flatMap f (xs ++ ys) ≡ flatMap f xs ++ flatMap f ys
+  unfolding flatMap
+  flat-append [] ys = refl
+  flat-append (x ∷ xs) ys = ap (λ (l : List B). f x ++ l) (flat-append xs ys) ∙ sym (append-assoc (f x) (flatMap f xs) (flatMap f ys))
+
+module _ {A B C : Type 0} (f : B → List C) (g : A → List B) where
+  pub flat-flat : (xs : List A) → flatMap f (flatMap g xs) ≡ flatMap (λ x. flatMap f (g x)) xs
+  unfolding flatMap
+  flat-flat [] = refl
+  flat-flat (x ∷ xs) = flat-append f (g x) (flatMap g xs) ∙ ap (λ (l : List C). flatMap f (g x) ++ l) (flat-flat xs)
+
+pub joined-flat : {A : Type 0} (f : A → List ℕ) (xs : List A) → joined f xs ≡ flatMap f xs
+unfolding joined flatMap
+joined-flat f [] = refl
+joined-flat f (x ∷ xs) = ap (λ (l : List ℕ). f x ++ l) (joined-flat f xs)
+
+module _ {A : Type 0} where
+  pub listed-append : (f : ℕ → A) (from a b : ℕ) → listed from (a + b) f ≡ listed from a f ++ listed (from + a) b f
+  unfolding listed
+  listed-append f from zero b = rw (zero-add b, add-zero from)
+  listed-append f from (suc a) b =
+      let e : from + suc a ≡ suc from + a = omega arith in
+      rw (suc-add a b, e) (ap (λ (l : List A). f from ∷ l) (listed-append f (suc from) a b))
+
+-- Of each number one; none; what another gives.
+module _ {A : Type 0} where
+  pub flat-same : (g h : ℕ → List A) (from n : ℕ) → ((k : ℕ) → from ≤ k → k < from + n → g k ≡ h k) → flatMap g (numbers from n) ≡ flatMap h (numbers from n)
+  unfolding flatMap listed
+  flat-same g h from zero e = refl
+  flat-same g h from (suc n) e =
+      ap₂ (λ (x y : List A). x ++ y) (e from (omega arith) (omega arith)) (flat-same g h (suc from) n (λ k l m. e k (omega arith) (omega arith)))
+
+  pub flat-one : (g : ℕ → List A) (f : ℕ → A) (from n : ℕ) → ((k : ℕ) → from ≤ k → k < from + n → g k ≡ f k ∷ []) → flatMap g (numbers from n) ≡ listed from n f
+  unfolding flatMap listed
+  flat-one g f from zero e = refl
+  flat-one g f from (suc n) e =
+      ap₂ (λ (x y : List A). x ++ y) (e from (omega arith) (omega arith)) (flat-one g f (suc from) n (λ k l m. e k (omega arith) (omega arith)))
+
+  pub flat-none : (g : ℕ → List A) (from n : ℕ) → ((k : ℕ) → from ≤ k → k < from + n → g k ≡ []) → flatMap g (numbers from n) ≡ []
+  unfolding flatMap listed
+  flat-none g from zero e = refl
+  flat-none g from (suc n) e =
+      ap₂ (λ (x y : List A). x ++ y) (e from (omega arith) (omega arith)) (flat-none g (suc from) n (λ k l m. e k (omega arith) (omega arith)))
+
+  -- Of those in the middle one, of the others none.
+  pub flat-middle : (g : ℕ → List A) (f : ℕ → A) (a m b n : ℕ) → n ≡ a + (m + b)
+      → ((k : ℕ) → k < a → g k ≡ []) → ((k : ℕ) → a ≤ k → k < a + m → g k ≡ f k ∷ []) → ((k : ℕ) → a + m ≤ k → k < n → g k ≡ [])
+      → flatMap g (numbers 0 n) ≡ listed a m f
+  flat-middle g f a m b n e first middle last =
+      let cut : numbers 0 n ≡ numbers 0 a ++ (numbers a m ++ numbers (a + m) b) =
+      ap (numbers 0) e ∙ listed-append (λ k. k) 0 a (m + b)
+      ∙ ap (λ (l : List ℕ). numbers 0 a ++ l) (ap (λ (i : ℕ). numbers i (m + b)) (zero-add a) ∙ listed-append (λ k. k) a m b) in
+      ap (flatMap g) cut
+      ∙ flat-append g (numbers 0 a) (numbers a m ++ numbers (a + m) b)
+      ∙ ap₂ (λ (x y : List A). x ++ y) (flat-none g 0 a (λ k l h. first k (omega arith)))
+      (flat-append g (numbers a m) (numbers (a + m) b)
+      ∙ ap₂ (λ (x y : List A). x ++ y) (flat-one g f a m middle) (flat-none g (a + m) b (λ k l h. last k l (omega arith))))
+      ∙ append-nil (listed a m f)
+
+module _ {A B : Type 0} where
+  pub flat-listed : (f : A → List B) (g : ℕ → A) (from n : ℕ) → flatMap f (listed from n g) ≡ flatMap (λ k. f (g k)) (numbers from n)
+  unfolding flatMap listed
+  flat-listed f g from zero = refl
+  flat-listed f g from (suc n) = ap (λ (l : List B). f (g from) ++ l) (flat-listed f g (suc from) n)
+
+-- One thing for each number: as many.
+pub length-flat : {A : Type 0} (g : ℕ → List A) (from n : ℕ) → ((k : ℕ) → length (g k) ≡ 1) → length (flatMap g (numbers from n)) ≡ n
+unfolding flatMap listed
+length-flat g from zero e = refl
+length-flat g from (suc n) e =
+    let h = length-flat g (suc from) n e in
+    let i = e from in
+    length-append (g from) (flatMap g (numbers (suc from) n)) ∙ omega arith
+
+-- A test on the elements of a list.
+module _ {A : Type 0} (p : A → Bool) where
+  pub any-append : (xs ys : List A) → any p (xs ++ ys) ≡ (any p xs || any p ys)
+  unfolding any
+  any-append [] ys = refl
+  any-append (x ∷ xs) ys = ap (λ (t : Bool). p x || t) (any-append xs ys) ∙ sym (or-assoc (p x) (any p xs) (any p ys))
+
+  pub any-listed : (f : ℕ → A) (from n k : ℕ) → from ≤ k → k < from + n → T (p (f k)) → T (any p (listed from n f))
+  unfolding any listed
+  any-listed f from zero k l h t = absurd (omega arith)
+  any-listed f from (suc n) k l h t = here (eq-or-lt-of-le l) (λ e. any-listed f (suc from) n k e (omega arith) t) where
+    here : (from ≡ k) ⊎ (from < k) → (from < k → T (any p (listed (suc from) n f))) → T (p (f from) || any p (listed (suc from) n f))
+    here (inl e) more = left-of (p (f from)) (any p (listed (suc from) n f)) (rw e t)
+    here (inr e) more = right-of (p (f from)) (any p (listed (suc from) n f)) (more e)
+
+  pub none-listed : (f : ℕ → A) (from n : ℕ) → ((k : ℕ) → from ≤ k → k < from + n → p (f k) ≡ false) → any p (listed from n f) ≡ false
+  unfolding any listed
+  none-listed f from zero h = refl
+  none-listed f from (suc n) h = rw (h from (omega arith) (omega arith), none-listed f (suc from) n (λ k l m. h k (omega arith) (omega arith)))
+
+pub any-flat : {A B : Type 0} (p : B → Bool) (g : A → List B) (xs : List A) → any p (flatMap g xs) ≡ any (λ x. any p (g x)) xs
+unfolding any flatMap
+any-flat p g [] = refl
+any-flat p g (x ∷ xs) = any-append p (g x) (flatMap g xs) ∙ ap (λ (t : Bool). any p (g x) || t) (any-flat p g xs)

@@ -1,0 +1,175 @@
+-- The run of an image, turn by turn: what is left to run from here, behind the records written so far, gives the whole.
+-- Assumes nothing.
+use mathlib.Core.Path.{_≡_, refl, sym, ap, _∙_}
+use mathlib.Core.Bool.{Bool, true, false}
+use mathlib.Core.List.{List, [], _∷_, _++_, append-assoc, append-nil}
+use Prim.Native.Nat.{ℕ, zero, suc, _+_, _*_, _-_, _≤_, _<_}
+use native.Mathlib.Nat.{sub-zero}
+use native.Mathlib.Numerals.{add-one}
+use native.Mathlib.Omega.{arith}
+use borrow.Author.Tests.{le-leb, lt-leb}
+use lib.ListN.{length, take, drop, take-append-drop, length-append}
+use lib.Seq.{sets, sets-eq, length-sets, length-take-le, take-at, drop-at, drop-drop}
+use Rattle.program.specs.declared.Cell.{Cell}
+use Rattle.program.specs.Cells.{same, statementOf}
+use Rattle.image.specs.Layout.{cellCount, cellAt, startValues}
+use Rattle.machine.specs.declared.Machine.{Machine}
+use Rattle.machine.specs.declared.Turned.{Turned}
+use Rattle.machine.specs.declared.Event.{Event}
+use Rattle.machine.specs.Effects.{effect}
+use Rattle.machine.specs.Turn.{startMachine, turn}
+use Rattle.machine.specs.Events.{eventCount, recordBytes}
+use Rattle.machine.specs.Run.{Course, ended, after, reach, runFrom}
+use Rattle.machine.specs.Code.{Inputs}
+use Rattle.machine.proofs.Inputs.{inputs-start, inputs-turn}
+use Rattle.machine.proofs.Written.{record-most}
+use Rattle.running.specs.declared.Reached.{Reached}
+use Rattle.running.specs.declared.Ended.{Ended}
+use Rattle.running.specs.Courses.{cellActs, imageCourse, over}
+use Rattle.running.specs.Code.{eventsFrom, ReachedBy, EndedAs}
+use Rattle.running.proofs.Scripts.{events-all, reach-next}
+
+-- The run from turn t on, with the events from number k on.
+module _ (s script : List ℕ) (budget : ℕ) where
+  abbrev pub rest : ℕ → ℕ → Machine → Course
+  rest t k m = runFrom (cellActs s) (cellCount s) (budget - t) t (eventsFrom script k) m
+
+  run-past : (left t : ℕ) (es : List Event) (m : Machine) → cellCount s ≤ m .next → runFrom (cellActs s) (cellCount s) left t es m ≡ ended 1 t m
+  unfolding runFrom
+  run-past zero t es m h = rw (le-leb (cellCount s) (m .next) h)
+  run-past (suc left) t es m h = rw (le-leb (cellCount s) (m .next) h)
+
+  run-spent : (t k : ℕ) (m : Machine) → m .next < cellCount s → budget ≤ t → rest t k m ≡ ended 3 t m
+  unfolding runFrom
+  run-spent t k m h l = let e : budget - t ≡ 0 = omega arith in rw (e, lt-leb (cellCount s) (m .next) h)
+
+  -- One turn: the events act, then the statement at the next cell.
+  module _ (t k : ℕ) (m : Machine) (h : m .next < cellCount s) (l : t < budget) {r : Reached} (er : ReachedBy script t k m r) {c : Cell} {d : Turned}
+      (ec : c ≡ cellAt s (r .machine .next)) (ed : d ≡ turn (cellCount s) (effect same same (r .machine .variables) (r .machine .kept) (r .machine .hold) (statementOf c)) (r .machine)) where
+    turn-taken : d ≡ turn (cellCount s) (cellActs s (reach t (eventsFrom script k) m .machine)) (reach t (eventsFrom script k) m .machine)
+    unfolding cellActs
+    turn-taken = rw (← er .machine, ← ec) ed
+
+    run-stopped : d .stops ≡ true → rest t k m ≡ after (recordBytes t (d .wrote)) (ended 2 (t + 1) (d .machine))
+    unfolding runFrom
+    run-stopped e =
+        let n : budget - t ≡ suc (budget - (t + 1)) = omega arith in
+        rw (n, lt-leb (cellCount s) (m .next) h, ← turn-taken, e, add-one t)
+
+    run-goes : d .stops ≡ false → rest t k m ≡ after (recordBytes t (d .wrote)) (rest (t + 1) (r .left) (d .machine))
+    unfolding runFrom
+    run-goes e =
+        let n : budget - t ≡ suc (budget - (t + 1)) = omega arith in
+        rw (n, lt-leb (cellCount s) (m .next) h, ← turn-taken, e, add-one t, er .left)
+
+-- Bytes written from a place on: what stands before their end, and behind it.
+module _ (at : ℕ) (b bs : List ℕ) (fits : at + length bs ≤ length b) where
+  in-front : length (take at b ++ bs) ≡ at + length bs
+  in-front = rw (length-append (take at b) bs, length-take-le at b (omega arith))
+
+  take-written : take (at + length bs) (sets b at bs) ≡ take at b ++ bs
+  take-written = rw (sets-eq bs b at fits) (take-at (take at b ++ bs) (drop (at + length bs) b) (at + length bs) in-front)
+
+  drop-written : drop (at + length bs) (sets b at bs) ≡ drop (at + length bs) b
+  drop-written = rw (sets-eq bs b at fits) (drop-at (take at b ++ bs) (drop (at + length bs) b) (at + length bs) in-front)
+
+-- The buffer `b` has the records up to `at`, and behind them what it had at the start, in `b₀`.
+pub record Written (course : Course) (b₀ b : List ℕ) (at : ℕ) (left : Course) : Type 0 where
+  pub inside : at ≤ length b
+  pub behind : drop at b ≡ drop at b₀
+  pub whole : after (take at b) left ≡ course
+
+-- A run that ended here.
+module _ {course : Course} {b₀ b : List ℕ} {at reason t : ℕ} {m : Machine} (w : Written course b₀ b at (ended reason t m)) where
+  all-bytes : length (take at b ++ []) ≡ at
+  all-bytes = rw append-nil (length-take-le at b (w .inside))
+
+  all-over : b ≡ over (after (take at b) (ended reason t m)) b₀
+  unfolding over
+  all-over = rw (append-nil, length-take-le at b (w .inside), ← w .behind, take-append-drop)
+
+  pub ended-as : EndedAs course (record { reason = reason; turns = t; bytes = at; machine = m }) b₀ b
+  ended-as =
+      let e = w .whole in
+      record {
+        reason = ap (λ (c : Course). c .reason) e;
+        turns = ap (λ (c : Course). c .turns) e;
+        bytes = sym all-bytes ∙ ap (λ (c : Course). length (c .records)) e;
+        machine = ap (λ (c : Course). c .machine) e;
+        buffer = all-over ∙ ap (λ (c : Course). over c b₀) e;
+      }
+
+-- A turn's record is written.
+written-more : {course : Course} {b₀ b : List ℕ} {at : ℕ} {left more : Course} (bs : List ℕ) → Written course b₀ b at left → at + length bs ≤ length b → left ≡ after bs more
+    → Written course b₀ (sets b at bs) (at + length bs) more
+written-more {b₀ = b₀} {b = b} {at = at} {more = more} bs w f e =
+    record {
+      inside = rw (length-sets b at bs) f;
+      behind = drop-written at b bs f ∙ sym (drop-drop (length bs) at b) ∙ ap (drop (length bs)) (w .behind) ∙ drop-drop (length bs) at b₀;
+      whole =
+          ap (λ (bytes : List ℕ). after bytes more) (take-written at b bs f)
+          ∙ rw append-assoc (ap (λ (c : Course). after (take at b) c) (sym e) ∙ w .whole);
+    }
+
+-- What holds before each turn t, with the events from number k on to come and the records up to `at` in the buffer.
+pub record Underway (s script : List ℕ) (budget : ℕ) (b₀ b : List ℕ) (m : Machine) (t k at : ℕ) : Type 0 where
+  pub turns : t ≤ budget
+  pub within : k ≤ eventCount script
+  pub inputs : Inputs (m .variables)
+  pub most : at ≤ 12 * t
+  pub size : length b ≡ length b₀
+  pub written : Written (imageCourse s script budget) b₀ b at (rest s script budget t k m)
+
+module _ {s script : List ℕ} {budget : ℕ} {b₀ : List ℕ} where
+  -- Before the first turn.
+  pub underway : {m : Machine} → m ≡ startMachine (startValues s) → Underway s script budget b₀ b₀ m 0 0 0
+  unfolding imageCourse
+  underway e =
+      record {
+        turns = omega arith;
+        within = omega arith;
+        inputs = rw e (inputs-start (startValues s));
+        most = omega arith;
+        size = refl;
+        written = record { inside = omega arith; behind = refl; whole = rw (e, sub-zero, events-all script) };
+      }
+
+  module _ {b : List ℕ} {m : Machine} {t k at : ℕ} (u : Underway s script budget b₀ b m t k at) {cells : ℕ} (en : cells ≡ cellCount s) where
+    ended-by : {reason : ℕ} → rest s script budget t k m ≡ ended reason t m → EndedAs (imageCourse s script budget) (record { reason = reason; turns = t; bytes = at; machine = m }) b₀ b
+    ended-by e = ended-as (rw e at (u .written))
+
+    -- Turn 6: the next cell is past the last; the budget is used.
+    pub past-last : cells ≤ m .next → EndedAs (imageCourse s script budget) (record { reason = 1; turns = t; bytes = at; machine = m }) b₀ b
+    past-last h = ended-by (run-past s script budget (budget - t) t (eventsFrom script k) m (omega arith))
+
+    pub budget-used : m .next < cells → budget ≤ t → EndedAs (imageCourse s script budget) (record { reason = 3; turns = t; bytes = at; machine = m }) b₀ b
+    budget-used h l = ended-by (run-spent s script budget t k m (omega arith) l)
+
+    -- One turn.
+    module _ (room : 12 * budget ≤ length b₀) (h : m .next < cells) (l : t < budget) {r : Reached} (er : ReachedBy script t k m r) where
+      pub next-inside : r .machine .next < cells
+      next-inside = rw (er .machine, reach-next t (eventsFrom script k) m) h
+
+      module _ {c : Cell} {d : Turned} {at′ : ℕ} {b′ : List ℕ} (ec : c ≡ cellAt s (r .machine .next))
+          (ed : d ≡ turn cells (effect same same (r .machine .variables) (r .machine .kept) (r .machine .hold) (statementOf c)) (r .machine))
+          (ea : at′ ≡ at + length (recordBytes t (d .wrote))) (eb : b′ ≡ sets b at (recordBytes t (d .wrote))) where
+        fits : at + length (recordBytes t (d .wrote)) ≤ length b
+        fits = omega (arith, record-most t (d .wrote), u .most, u .size)
+
+        more : (left : Course) → rest s script budget t k m ≡ after (recordBytes t (d .wrote)) left → Written (imageCourse s script budget) b₀ b′ at′ left
+        more left e = rw (ea, eb) (written-more (recordBytes t (d .wrote)) (u .written) fits e)
+
+        -- Turn 25: the run stops after the turn.
+        pub stopped : d .stops ≡ true → EndedAs (imageCourse s script budget) (record { reason = 2; turns = t + 1; bytes = at′; machine = d .machine }) b₀ b′
+        stopped e = ended-as (more (ended 2 (t + 1) (d .machine)) (run-stopped s script budget t k m (omega arith) l er ec (rw en at ed) e))
+
+        pub goes-on : d .stops ≡ false → Underway s script budget b₀ b′ (d .machine) (t + 1) (r .left) at′
+        goes-on e =
+            record {
+              turns = omega arith;
+              within = er .within;
+              inputs = rw ed (inputs-turn (r .machine) (er .inputs) same same cells (statementOf c));
+              most = omega (arith, record-most t (d .wrote), u .most);
+              size = rw eb (length-sets b at (recordBytes t (d .wrote)) ∙ u .size);
+              written = more (rest s script budget (t + 1) (r .left) (d .machine)) (run-goes s script budget t k m (omega arith) l er ec (rw en at ed) e);
+            }

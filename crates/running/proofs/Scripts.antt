@@ -1,0 +1,129 @@
+-- What is listed, one after the other: the start values of an image, and the events of a script from a number on.
+-- Assumes nothing.
+use mathlib.Core.Path.{_≡_, refl, sym, ap, _∙_}
+use mathlib.Core.Bool.{Bool, true, false, cond, _||_, not}
+use mathlib.Core.List.{List, [], _∷_}
+use Prim.Native.Nat.{ℕ, zero, suc, _+_, _-_, _%_, _≤_, _<_}
+use native.Mathlib.Nat.{sub-zero}
+use native.Mathlib.Numerals.{add-one}
+use native.Mathlib.Omega.{arith}
+use borrow.Author.Tests.{eq-eqb, ne-eqb, ltb-false}
+use lib.Dec.{eqb, ltb}
+use lib.IntN.{ℤ, pos}
+use lib.ListN.{length, getD, set, take}
+use lib.Seq.{take-all}
+use Rattle.numbers.specs.Tests.{listed}
+use Rattle.image.specs.Layout.{variableCount, startValue, startValues}
+use Rattle.machine.specs.declared.Machine.{Machine}
+use Rattle.machine.specs.declared.Motion.{Motion}
+use Rattle.machine.specs.declared.Motion.the-variants.{Still, To, Slewing}
+use Rattle.machine.specs.declared.Event.{Event}
+use Rattle.machine.specs.Turn.{withVariables, startMachine, inMotion}
+use Rattle.machine.specs.Events.{eventAt, eventCount, events, happens, arrivedBy, badScript}
+use Rattle.machine.specs.Run.{Reached, reach}
+use Rattle.machine.specs.Code.{Inputs}
+use Rattle.machine.proofs.Written.{start-more}
+use Rattle.running.specs.Code.{eventsFrom, ReachedBy}
+
+module _ {A : Type 0} (f : ℕ → A) where
+  length-listed : (n from : ℕ) → length (listed from n f) ≡ n
+  unfolding listed
+  length-listed zero from = refl
+  length-listed (suc n) from = ap suc (length-listed n (suc from))
+
+  at-listed : (n from k : ℕ) (d : A) → k < n → getD (listed from n f) k d ≡ f (from + k)
+  unfolding listed
+  at-listed zero from k d h = absurd (omega arith)
+  at-listed (suc n) from zero d h = let e : from + 0 ≡ from = omega arith in rw e
+  at-listed (suc n) from (suc k) d h = let e : suc from + k ≡ from + suc k = omega arith in at-listed n (suc from) k d (omega arith) ∙ ap f e
+
+-- The start values of an image, one more at a time.
+module _ (s : List ℕ) where
+  length-values : length (startValues s) ≡ variableCount s
+  unfolding startValues
+  length-values = length-listed (startValue s) (variableCount s) 0
+
+  value-at : (k : ℕ) → k < variableCount s → getD (startValues s) k (pos 0) ≡ startValue s k
+  unfolding startValues
+  value-at k h = let e : 0 + k ≡ k = omega arith in at-listed (startValue s) (variableCount s) 0 k (pos 0) h ∙ ap (startValue s) e
+
+  pub started-more : (k : ℕ) {m m′ : Machine} {z : ℤ} → k < variableCount s → m ≡ startMachine (take k (startValues s)) → z ≡ startValue s k
+      → m′ ≡ withVariables (set (m .variables) (32 + k) z) m → m′ ≡ startMachine (take (k + 1) (startValues s))
+  started-more k h em ez e =
+      rw (e, ez, em, ← value-at k h, add-one k) (start-more (startValues s) k (rw length-values h))
+
+  pub started-all : (k : ℕ) {m : Machine} → variableCount s ≤ k → m ≡ startMachine (take k (startValues s)) → m ≡ startMachine (startValues s)
+  started-all k h e = e ∙ ap startMachine (take-all k (startValues s) (rw length-values h))
+
+either-false : (x y : Bool) → (x || y) ≡ false → y ≡ false
+either-false false y e = e
+either-false true y e = cc
+
+-- The events of a script, one fewer at a time.
+module _ (s : List ℕ) where
+  -- Refusals 16: a script that is not bad has few events.
+  pub few-events : badScript s ≡ false → eventCount s ≤ 4096
+  unfolding badScript
+  few-events e = ltb-false 4096 (eventCount s) (either-false (not (eqb (length s % 12) 0)) (ltb 4096 (eventCount s)) e)
+
+  pub events-all : eventsFrom s 0 ≡ events s
+  unfolding eventsFrom events
+  events-all = rw (sub-zero (eventCount s))
+
+  events-more : (k : ℕ) → k < eventCount s → eventsFrom s k ≡ eventAt s k ∷ eventsFrom s (k + 1)
+  unfolding eventsFrom listed
+  events-more k h = let e : eventCount s - k ≡ suc (eventCount s - (k + 1)) = omega arith in rw (e, add-one k)
+
+  events-none : (k : ℕ) → eventCount s ≤ k → eventsFrom s k ≡ []
+  unfolding eventsFrom listed
+  events-none k h = let e : eventCount s - k ≡ 0 = omega arith in rw e
+
+  module _ (t k : ℕ) (m : Machine) where
+    -- An event of turn t acts.
+    pub reach-more : {e : Event} {m′ : Machine} → k < eventCount s → e ≡ eventAt s k → e .turn ≡ t → m′ ≡ happens e m
+        → reach t (eventsFrom s (k + 1)) m′ ≡ reach t (eventsFrom s k) m
+    unfolding reach
+    reach-more {e} h ee et em = rw (events-more k h, ← ee, em, eq-eqb (e .turn) t et)
+
+    -- An event of a later turn waits.
+    pub reach-waits : {e : Event} → k < eventCount s → e ≡ eventAt s k → (e .turn ≡ t → ⊥) → reach t (eventsFrom s k) m ≡ record { machine = m; left = eventsFrom s k }
+    unfolding reach
+    reach-waits {e} h ee et = rw (events-more k h, ← ee, ne-eqb (e .turn) t et)
+
+    -- No event is left.
+    pub reach-none : eventCount s ≤ k → reach t (eventsFrom s k) m ≡ record { machine = m; left = eventsFrom s k }
+    unfolding reach
+    reach-none h = rw (events-none k h)
+
+  -- What stands when no event of the turn is left.
+  pub reached-by : (t first k : ℕ) {m here : Machine} → k ≤ eventCount s → Inputs (here .variables)
+      → reach t (eventsFrom s k) here ≡ record { machine = here; left = eventsFrom s k } → reach t (eventsFrom s k) here ≡ reach t (eventsFrom s first) m
+      → ReachedBy s t first m (record { machine = here; left = k })
+  reached-by t first k w i e h =
+      let r = sym e ∙ h in
+      record { machine = ap (λ (x : Reached). x .machine) r; left = ap (λ (x : Reached). x .left) r; within = w; inputs = i }
+
+-- An event leaves the next cell as it is.
+arrived-next : (k : Motion) (m : Machine) → arrivedBy k m .next ≡ m .next
+unfolding arrivedBy inMotion
+arrived-next Still m = refl
+arrived-next (To z) m = refl
+arrived-next (Slewing z) m = refl
+
+chosen-next : (a b : Bool) (x y z : Machine) (n : ℕ) → x .next ≡ n → y .next ≡ n → z .next ≡ n → cond a x (cond b y z) .next ≡ n
+chosen-next true b x y z n h k l = h
+chosen-next false true x y z n h k l = k
+chosen-next false false x y z n h k l = l
+
+happens-next : (e : Event) (m : Machine) → happens e m .next ≡ m .next
+unfolding happens
+happens-next e m = chosen-next (eqb (e .kind) 1) (eqb (e .kind) 2) _ _ _ (m .next) refl (arrived-next (m .motion) m) refl
+
+pub reach-next : (t : ℕ) (es : List Event) (m : Machine) → reach t es m .machine .next ≡ m .next
+unfolding reach
+reach-next t [] m = refl
+reach-next t (e ∷ es) m = by-turn (eqb (e .turn) t) (reach-next t es (happens e m) ∙ happens-next e m)
+  where
+    by-turn : (b : Bool) → reach t es (happens e m) .machine .next ≡ m .next → cond b (reach t es (happens e m)) (record { machine = m; left = e ∷ es }) .machine .next ≡ m .next
+    by-turn true h = h
+    by-turn false h = refl

@@ -1,0 +1,34 @@
+-- What the code of the run answers, in the words of the run's definitions.
+-- Assumes nothing.
+use mathlib.Core.Path.{_≡_}
+use mathlib.Core.List.{List}
+use Prim.Native.Nat.{ℕ, _-_, _≤_}
+use lib.ListN.{length}
+use Rattle.numbers.specs.Tests.{listed}
+use Rattle.machine.specs.declared.Machine.{Machine}
+use Rattle.machine.specs.declared.Event.{Event}
+use Rattle.machine.specs.Events.{eventAt, eventCount}
+use Rattle.machine.specs.Run.{Course, reach}
+use Rattle.machine.specs.Code.{Inputs}
+use Rattle.running.specs.declared.Reached.{Reached}
+use Rattle.running.specs.declared.Ended.{Ended}
+use Rattle.running.specs.Courses.{over}
+
+-- The events of a script from the one with this number on.
+unfoldable pub eventsFrom : List ℕ → ℕ → List Event
+eventsFrom s k = listed k (eventCount s - k) (eventAt s)
+
+-- The events of turn t have acted, from the one with this number on.
+pub record ReachedBy (s : List ℕ) (t first : ℕ) (m : Machine) (r : Reached) : Type 0 where
+  pub machine : r .machine ≡ reach t (eventsFrom s first) m .machine
+  pub left : eventsFrom s (r .left) ≡ reach t (eventsFrom s first) m .left
+  pub within : r .left ≤ eventCount s
+  pub inputs : Inputs (r .machine .variables)
+
+-- A run went like this course, and its records stand in the buffer over what that held.
+pub record EndedAs (course : Course) (r : Ended) (before after : List ℕ) : Type 0 where
+  pub reason : r .reason ≡ course .reason
+  pub turns : r .turns ≡ course .turns
+  pub bytes : r .bytes ≡ length (course .records)
+  pub machine : r .machine ≡ course .machine
+  pub buffer : after ≡ over course before

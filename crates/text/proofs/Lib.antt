@@ -1,0 +1,10 @@
+pub mod Lines
+pub mod Scanning
+pub mod Packing
+pub mod Matching
+pub mod Words
+pub mod Filling
+pub mod Rows
+pub mod Packed
+pub mod Readings
+pub mod Heard

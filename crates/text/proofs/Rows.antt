@@ -1,0 +1,419 @@
+-- What the tokens of a line say by a form: the paper's line and the code's reading of it, form by form.
+-- Assumes nothing.
+use mathlib.Core.Path.{_≡_, refl, sym, ap, ap₂, _∙_}
+use mathlib.Core.Bool.{Bool, true, false, cond, _||_}
+use mathlib.Core.List.{List, [], _∷_}
+use mathlib.Core.Option.{Option, none, some}
+use Prim.Native.Nat.{ℕ, _-_}
+use native.Mathlib.Omega.{arith}
+use lib.Dec.{T, eqb}
+use lib.IntN.{ℤ, pos}
+use Rattle.numbers.specs.Bytes.{ascii, number}
+use Rattle.numbers.specs.Tests.{any, eqList, numbered}
+use Rattle.program.specs.Names.{Name, reserved, twoCharacters, userName}
+use Rattle.program.specs.Code.{key, nameOf}
+use Rattle.program.specs.Cells as Cells
+use Rattle.program.specs.Cells.{cell, cellOf, jumpOf, noTarget}
+use Rattle.program.specs.Statements as Said
+use Rattle.program.specs.Statements.{Literal, Variable, Always, Compare, Statement, operands, writes, targets, compared, Set, SetWith, IC, DC, BR, CL, RT, E, H, Hold, OE, Disarm, MA, MR, SL, PR}
+use Rattle.program.specs.declared.Operand.{Operand}
+use Rattle.program.specs.declared.Operand.the-variants as O
+use Rattle.text.specs.Tokens as Paper
+use Rattle.text.specs.Forms as Form
+use Rattle.text.specs.Forms.{Line, Blank, Label, Declared, Acts, take, literal, variable, operand, variableName, operators, comparisons, Parts, noParts, forms, named, writing, onLeft, onRight, selecting, starting, Slot, Is, New, Target, Written, Left, Right, Start, Operator, Comparison, put, takesWord, takesFirst, takes, fill}
+use Rattle.text.specs.Faults.{tooBig, bigValue, bigIn, declares}
+use Rattle.text.specs.Code.{formNumbers, smallOf, operandOf, cellBy, leftBy, rightBy, targetBy, sayTable, sayOf, slotTable, slotsOf, sayBy, anyBig, partsBy, readParts, readingWith, faulty, noCell, saidBy}
+use Rattle.text.specs.declared.forms.Reading.{Reading}
+use Rattle.text.proofs.Filling.{new, target, written, left, right, start, operator, comparison, fixed, Slots, end, skip, slot, goOn, cond-yes, cond-no}
+
+-- A value that an operand takes: a literal, or the name of a variable.
+abbrev pub Known : Said.Value Name → Type 0
+Known (Literal z) = Unit
+Known (Variable v) = T (variableName v)
+
+-- What a slot does to the parts.
+pub data Effect : Slot → Parts → Parts → Type 0 where
+  nothing : {w : Name} {p : Parts} → Effect (Is w) p p
+  declared : {w : Name} {p : Parts} → T (twoCharacters w) → Effect New p (named w p)
+  aimed : {w : Name} {p : Parts} → T (userName w) → Effect Target p (named w p)
+  wrote : {v : Name} {p : Parts} → T (variableName v) → Effect Written p (writing v p)
+  onTheLeft : {x : Said.Value Name} {p : Parts} → Known x → Effect Left p (onLeft p x)
+  onTheRight : {y : Said.Value Name} {p : Parts} → Known y → Effect Right p (onRight p y)
+  started : {z : ℤ} {p : Parts} → Effect Start p (starting p z)
+  operated : {c : ℕ} {p : Parts} → Effect Operator p (selecting c p)
+  compares : {c : ℕ} {p : Parts} → Effect Comparison p (selecting c p)
+
+-- What the slots of a form do to the parts, one after the other.
+pub data Filled : List Slot → Parts → Parts → Type 0 where
+  done : {p : Parts} → Filled [] p p
+  step : {s : Slot} {ss : List Slot} {p q r : Parts} → Effect s p q → Filled ss q r → Filled (s ∷ ss) p r
+
+module _ {A : Type 0} where
+  abbrev Holds : (A → Type 0) → Option (Form.Taken A) → Type 0
+  Holds K none = Unit
+  Holds K (some f) = K (f .part)
+
+  holds-cond : (K : A → Type 0) (b : Bool) (a : A) (ts : List Paper.Token) → (T b → K a) → Holds K (cond b (take a ts) none)
+  holds-cond K true a ts f = f tt
+  holds-cond K false a ts f = tt
+
+  holds-not : (K : A → Type 0) (b : Bool) (a : A) (ts : List Paper.Token) → K a → Holds K (cond b none (take a ts))
+  holds-not K true a ts f = tt
+  holds-not K false a ts f = f
+
+abbrev pub HoldsAt : (Parts → Type 0) → Option Parts → Type 0
+HoldsAt K none = Unit
+HoldsAt K (some p) = K p
+
+put-holds : {A : Type 0} (K : A → Type 0) (L : Parts → Type 0) (into : A → Parts) (o : Option (Form.Taken A)) → Holds K o → ((a : A) → K a → L (into a)) → Holds L (put into o)
+unfolding put
+put-holds K L into none h f = tt
+put-holds K L into (some a) h f = f (a .part) h
+
+variable-known : (ts : List Paper.Token) → Holds Known (variable ts)
+unfolding variable
+variable-known [] = tt
+variable-known (t ∷ ts) = holds-cond Known (variableName (t .chars)) (Variable (t .chars)) ts (λ h. h)
+
+operand-known : (ts : List Paper.Token) → Holds Known (operand ts)
+unfolding operand
+operand-known ts = pick (literal ts)
+  where
+    pick : (o : Option (Form.Taken ℤ)) → Holds Known (elim o [ none ↦ variable ts | some z ↦ take (Literal (z .part)) (z .rest) ])
+    pick none = variable-known ts
+    pick (some z) = tt
+
+always : (o : Option (Form.Taken ℤ)) → Holds (λ z. Unit {0}) o
+always none = tt
+always (some z) = tt
+
+effect : (s : Slot) (ts : List Paper.Token) (p : Parts) → Holds (λ q. Effect s p q) (takes s ts p)
+unfolding takes takesFirst takesWord
+effect (Is w) [] p = tt
+effect (Is w) (t ∷ ts) p = holds-cond (Effect (Is w) p) (eqList (t .chars) w) p ts (λ h. nothing)
+effect New [] p = tt
+effect New (t ∷ ts) p = holds-cond (Effect New p) (twoCharacters (t .chars)) (named (t .chars) p) ts (λ h. declared h)
+effect Target [] p = tt
+effect Target (t ∷ ts) p = holds-cond (Effect Target p) (userName (t .chars)) (named (t .chars) p) ts (λ h. aimed h)
+effect Written [] p = tt
+effect Written (t ∷ ts) p = holds-cond (Effect Written p) (variableName (t .chars)) (writing (t .chars) p) ts (λ h. wrote h)
+effect Left ts p = put-holds Known (Effect Left p) (onLeft p) (operand ts) (operand-known ts) (λ x h. onTheLeft h)
+effect Right ts p = put-holds Known (Effect Right p) (onRight p) (operand ts) (operand-known ts) (λ x h. onTheRight h)
+effect Start ts p = put-holds (λ z. Unit {0}) (Effect Start p) (starting p) (literal ts) (always (literal ts)) (λ z h. started)
+effect Operator [] p = tt
+effect Operator (t ∷ ts) p = holds-not (Effect Operator p) (eqb (numbered operators (t .chars)) 0) (selecting (numbered operators (t .chars)) p) ts operated
+effect Comparison [] p = tt
+effect Comparison (t ∷ ts) p = holds-not (Effect Comparison p) (eqb (numbered comparisons (t .chars)) 0) (selecting (numbered comparisons (t .chars)) p) ts compares
+
+holds-map : (K L : Parts → Type 0) → ((q : Parts) → K q → L q) → (o : Option Parts) → HoldsAt K o → HoldsAt L o
+holds-map K L f none h = tt
+holds-map K L f (some q) h = f q h
+
+pub filled : (ss : List Slot) (ts : List Paper.Token) (p : Parts) → HoldsAt (Filled ss p) (fill ss ts p)
+unfolding fill
+filled [] [] p = done
+filled [] (t ∷ ts) p = tt
+filled (s ∷ ss) ts p = pick (takes s ts p) (effect s ts p) (λ us q. filled ss us q)
+  where
+    pick : (o : Option (Form.Taken Parts)) → Holds (Effect s p) o → ((us : List Paper.Token) (q : Parts) → HoldsAt (Filled ss q) (fill ss us q)) → HoldsAt (Filled (s ∷ ss) p) (goOn ss o)
+    pick none h ih = tt
+    pick (some f) h ih = holds-map (Filled ss (f .part)) (Filled (s ∷ ss) p) (λ q g. step h g) (fill ss (f .rest) (f .part)) (ih (f .rest) (f .part))
+
+-- What a line that fills a form gives to read: a literal that is too big comes first, then a reserved name.
+unfoldable pub lineReading : Line → Reading
+lineReading x = cond (bigIn x) (faulty 4) (cond (any reserved (declares x)) (faulty 5) (saidBy x))
+
+never : true ≡ false → ⊥
+never e = let q : _≡_ {A = ℕ} 0 1 = cc in omega arith
+
+or-false : (b : Bool) → (b || false) ≡ b
+or-false true = refl
+or-false false = refl
+
+or-none : (b : Bool) → (b || false) ≡ false → b ≡ false
+or-none b e = sym (or-false b) ∙ e
+
+small-same : (z : ℤ) → tooBig z ≡ false → smallOf z ≡ z
+unfolding smallOf
+small-same z e = rw e
+
+small-operand : (x : Said.Value Name) → bigValue x ≡ false → operandOf x ≡ Cells.operandOf key key x
+unfolding operandOf bigValue Cells.operandOf
+small-operand (Literal z) e = ap O.Literal (small-same z e)
+small-operand (Variable v) e = refl
+
+label-says : (w : Name) → partsBy 1 0 0 (named w noParts) ≡ lineReading (Label w)
+unfolding partsBy sayBy anyBig bigValue tooBig smallOf lineReading bigIn declares any saidBy
+label-says w = ap (λ (b : Bool). cond b (faulty 5) (readingWith 0 1 (key w) (pos 0) noCell)) (sym (or-false (reserved w)))
+
+start-big : (w : Name) (z : ℤ) → anyBig (starting (named w noParts) z) ≡ tooBig z
+unfolding anyBig bigValue tooBig
+start-big w z = refl
+
+declared-says : (w : Name) (z : ℤ) → partsBy 2 0 0 (starting (named w noParts) z) ≡ lineReading (Declared w z)
+unfolding partsBy sayBy lineReading bigIn declares any saidBy
+declared-says w z = pick (tooBig z) refl
+  where
+    reading : ℤ → Reading
+    reading y = readingWith 0 2 (key w) y noCell
+
+    pick : (b : Bool) → tooBig z ≡ b → partsBy 2 0 0 (starting (named w noParts) z) ≡ lineReading (Declared w z)
+    pick true e = cond-yes (anyBig (starting (named w noParts) z)) _ _ (start-big w z ∙ e) ∙ sym (cond-yes (tooBig z) _ _ e)
+    pick false e =
+        cond-no (anyBig (starting (named w noParts) z)) _ _ (start-big w z ∙ e)
+        ∙ ap₂ (λ (b : Bool) (y : ℤ). cond b (faulty 5) (reading y)) (sym (or-false (reserved w))) (small-same z e)
+        ∙ sym (cond-no (tooBig z) _ _ e)
+
+acts-says : (o shape : ℕ) (p : Parts) (s : Statement Name) (b : Bool) → anyBig p ≡ b → any bigValue (operands s) ≡ b → (b ≡ false → cellBy o shape p ≡ cellOf key key s)
+    → partsBy 3 o shape p ≡ lineReading (Acts s)
+unfolding partsBy sayBy lineReading bigIn declares any saidBy
+acts-says o shape p s true e f g = rw (e, f)
+acts-says o shape p s false e f g = rw (e, f, g refl)
+
+-- Statements with one operand, and with two.
+one-big : (x : Bool) → ((x || false) || false) ≡ (x || false)
+one-big x = or-false (x || false)
+
+two-big : (x y : Bool) → ((x || y) || false) ≡ (x || (y || false))
+two-big true y = refl
+two-big false y = refl
+
+two-none : (x y : Bool) → (x || (y || false)) ≡ false → (x ≡ false) × (y ≡ false)
+two-none true y e = absurd (never e)
+two-none false y e = (refl, or-none y e)
+
+module _ (o w : ℕ) (p : Parts) (x : Said.Value Name) (s : Statement Name) (e : anyBig p ≡ ((bigValue x || false) || false)) (f : operands s ≡ x ∷ [])
+    (g : cellBy o 1 p ≡ cell o w 0 (operandOf x) O.Nothing 0) (h : cellOf key key s ≡ cell o w 0 (Cells.operandOf key key x) O.Nothing 0) where
+  one-says : partsBy 3 o 1 p ≡ lineReading (Acts s)
+  unfolding any
+  one-says =
+      acts-says o 1 p s (bigValue x || false) (e ∙ one-big (bigValue x)) (ap (any bigValue) f)
+      (λ b. g ∙ ap (λ (z : Operand). cell o w 0 z O.Nothing 0) (small-operand x (or-none (bigValue x) b)) ∙ sym h)
+
+module _ (o w c k : ℕ) (p : Parts) (x y : Said.Value Name) (s : Statement Name) (e : anyBig p ≡ ((bigValue x || bigValue y) || false)) (f : operands s ≡ x ∷ y ∷ [])
+    (g : cellBy o 2 p ≡ cell o w c (operandOf x) (operandOf y) k) (h : cellOf key key s ≡ cell o w c (Cells.operandOf key key x) (Cells.operandOf key key y) k) where
+  two-says : partsBy 3 o 2 p ≡ lineReading (Acts s)
+  unfolding any
+  two-says =
+      acts-says o 2 p s (bigValue x || (bigValue y || false)) (e ∙ two-big (bigValue x) (bigValue y)) (ap (any bigValue) f)
+      (λ b. let n = two-none (bigValue x) (bigValue y) b in g ∙ ap₂ (λ (z u : Operand). cell o w c z u k) (small-operand x (n .0)) (small-operand y (n .1)) ∙ sym h)
+
+-- Something holds of each.
+module _ {A : Type 0} where
+  abbrev pub Each : (A → Type 0) → List A → Type 0
+  Each P [] = Unit
+  Each P (x ∷ xs) = P x × Each P xs
+
+-- The names in a statement: its label is a name of the user's, its variables are those of the paper or the user.
+pub record Named (s : Statement Name) : Type 0 where
+  pub aims : Each (λ (n : Name). T (userName n)) (targets s)
+  pub sets : Each (λ (v : Name). T (variableName v)) (writes s)
+  pub reads : Each Known (operands s)
+
+-- What a form makes sure of in what a line says.
+abbrev pub Sound : Line → Type 0
+Sound Blank = Unit
+Sound (Label w) = T (twoCharacters w)
+Sound (Declared w z) = T (twoCharacters w)
+Sound (Acts s) = Named s
+
+-- A form of the code and one of the paper, and all of them.
+pub record Row (n : ℕ) (f : Form.Form) : Type 0 where
+  pub slots : Slots (slotsOf n) (f .slots)
+  pub says : {q : Parts} → Filled (f .slots) noParts q → readParts n q ≡ lineReading (f .says q)
+  pub sound : {q : Parts} → Filled (f .slots) noParts q → Sound (f .says q)
+
+pub data Rows : List ℕ → List Form.Form → Type 0 where
+  last : Rows [] []
+  next : {n : ℕ} {f : Form.Form} {ns : List ℕ} {fs : List Form.Form} → Row n f → Rows ns fs → Rows (n ∷ ns) (f ∷ fs)
+
+says-LB : {q : Parts} → Filled (Is (ascii "LB") ∷ New ∷ []) noParts q → readParts 0 q ≡ lineReading (Label (q .name))
+unfolding readParts sayOf sayTable
+says-LB (step nothing (step (declared {w} _) done)) = label-says w
+
+sound-LB : {q : Parts} → Filled (Is (ascii "LB") ∷ New ∷ []) noParts q → Sound (Label (q .name))
+sound-LB (step nothing (step (declared a) done)) = a
+
+says-VA : {q : Parts} → Filled (Is (ascii "VA") ∷ New ∷ []) noParts q → readParts 1 q ≡ lineReading (Declared (q .name) (pos 0))
+unfolding readParts sayOf sayTable
+says-VA (step nothing (step (declared {w} _) done)) = declared-says w (pos 0)
+
+sound-VA : {q : Parts} → Filled (Is (ascii "VA") ∷ New ∷ []) noParts q → Sound (Declared (q .name) (pos 0))
+sound-VA (step nothing (step (declared a) done)) = a
+
+says-VA-start : {q : Parts} → Filled (Is (ascii "VA") ∷ New ∷ Is (ascii "=") ∷ Start ∷ []) noParts q → readParts 2 q ≡ lineReading (Declared (q .name) (q .start))
+unfolding readParts sayOf sayTable
+says-VA-start (step nothing (step (declared {w} _) (step nothing (step (started {z}) done)))) = declared-says w z
+
+sound-VA-start : {q : Parts} → Filled (Is (ascii "VA") ∷ New ∷ Is (ascii "=") ∷ Start ∷ []) noParts q → Sound (Declared (q .name) (q .start))
+sound-VA-start (step nothing (step (declared a) (step nothing (step started done)))) = a
+
+says-set : {q : Parts} → Filled (Written ∷ Is (ascii "=") ∷ Left ∷ []) noParts q → readParts 3 q ≡ lineReading (Acts (Set (q .written) (q .left)))
+unfolding readParts sayOf sayTable anyBig bigValue tooBig any operands compared cellBy leftBy rightBy targetBy cellOf jumpOf noTarget key number
+says-set (step (wrote {v} _) (step nothing (step (onTheLeft {x} _) done))) = one-says 1 (key v) _ x (Set v x) refl refl refl refl
+
+sound-set : {q : Parts} → Filled (Written ∷ Is (ascii "=") ∷ Left ∷ []) noParts q → Sound (Acts (Set (q .written) (q .left)))
+unfolding targets writes operands compared
+sound-set (step (wrote b) (step nothing (step (onTheLeft d) done))) = record { aims = tt; sets = (b, tt); reads = (d, tt) }
+
+says-set-with : {q : Parts} → Filled (Written ∷ Is (ascii "=") ∷ Left ∷ Operator ∷ Right ∷ []) noParts q → readParts 4 q ≡ lineReading (Acts (SetWith (q .written) (q .left) (q .selector) (q .right)))
+unfolding readParts sayOf sayTable anyBig bigValue tooBig any operands compared cellBy leftBy rightBy targetBy cellOf jumpOf noTarget key number
+says-set-with (step (wrote {v} _) (step nothing (step (onTheLeft {x} _) (step (operated {c}) (step (onTheRight {y} _) done))))) = two-says 2 (key v) c 0 _ x y (SetWith v x c y) refl refl refl refl
+
+sound-set-with : {q : Parts} → Filled (Written ∷ Is (ascii "=") ∷ Left ∷ Operator ∷ Right ∷ []) noParts q → Sound (Acts (SetWith (q .written) (q .left) (q .selector) (q .right)))
+unfolding targets writes operands compared
+sound-set-with (step (wrote b) (step nothing (step (onTheLeft d) (step operated (step (onTheRight e) done))))) = record { aims = tt; sets = (b, tt); reads = (d, (e, tt)) }
+
+says-IC : {q : Parts} → Filled (Is (ascii "IC") ∷ Written ∷ []) noParts q → readParts 5 q ≡ lineReading (Acts (IC (q .written)))
+unfolding readParts sayOf sayTable anyBig bigValue tooBig any operands compared cellBy leftBy rightBy targetBy cellOf jumpOf noTarget key number
+says-IC (step nothing (step (wrote {v} _) done)) = acts-says 3 0 _ (IC v) false refl refl (λ b. refl)
+
+sound-IC : {q : Parts} → Filled (Is (ascii "IC") ∷ Written ∷ []) noParts q → Sound (Acts (IC (q .written)))
+unfolding targets writes operands compared
+sound-IC (step nothing (step (wrote b) done)) = record { aims = tt; sets = (b, tt); reads = tt }
+
+says-DC : {q : Parts} → Filled (Is (ascii "DC") ∷ Written ∷ []) noParts q → readParts 6 q ≡ lineReading (Acts (DC (q .written)))
+unfolding readParts sayOf sayTable anyBig bigValue tooBig any operands compared cellBy leftBy rightBy targetBy cellOf jumpOf noTarget key number
+says-DC (step nothing (step (wrote {v} _) done)) = acts-says 4 0 _ (DC v) false refl refl (λ b. refl)
+
+sound-DC : {q : Parts} → Filled (Is (ascii "DC") ∷ Written ∷ []) noParts q → Sound (Acts (DC (q .written)))
+unfolding targets writes operands compared
+sound-DC (step nothing (step (wrote b) done)) = record { aims = tt; sets = (b, tt); reads = tt }
+
+says-BR : {q : Parts} → Filled (Is (ascii "BR") ∷ Target ∷ []) noParts q → readParts 7 q ≡ lineReading (Acts (BR (q .name) Always))
+unfolding readParts sayOf sayTable anyBig bigValue tooBig any operands compared cellBy leftBy rightBy targetBy cellOf jumpOf noTarget key number
+says-BR (step nothing (step (aimed {w} _) done)) = acts-says 5 0 _ (BR w Always) false refl refl (λ b. refl)
+
+sound-BR : {q : Parts} → Filled (Is (ascii "BR") ∷ Target ∷ []) noParts q → Sound (Acts (BR (q .name) Always))
+unfolding targets writes operands compared
+sound-BR (step nothing (step (aimed a) done)) = record { aims = (a, tt); sets = tt; reads = tt }
+
+says-BR-if : {q : Parts} → Filled (Is (ascii "BR") ∷ Target ∷ Is (ascii ",") ∷ Left ∷ Comparison ∷ Right ∷ []) noParts q → readParts 8 q ≡ lineReading (Acts (BR (q .name) (Compare (q .left) (q .selector) (q .right))))
+unfolding readParts sayOf sayTable anyBig bigValue tooBig any operands compared cellBy leftBy rightBy targetBy cellOf jumpOf noTarget key number
+says-BR-if (step nothing (step (aimed {w} _) (step nothing (step (onTheLeft {x} _) (step (compares {c}) (step (onTheRight {y} _) done)))))) = two-says 5 0 c (key w) _ x y (BR w (Compare x c y)) refl refl refl refl
+
+sound-BR-if : {q : Parts} → Filled (Is (ascii "BR") ∷ Target ∷ Is (ascii ",") ∷ Left ∷ Comparison ∷ Right ∷ []) noParts q → Sound (Acts (BR (q .name) (Compare (q .left) (q .selector) (q .right))))
+unfolding targets writes operands compared
+sound-BR-if (step nothing (step (aimed a) (step nothing (step (onTheLeft d) (step compares (step (onTheRight e) done)))))) = record { aims = (a, tt); sets = tt; reads = (d, (e, tt)) }
+
+says-CL : {q : Parts} → Filled (Is (ascii "CL") ∷ Target ∷ []) noParts q → readParts 9 q ≡ lineReading (Acts (CL (q .name) Always))
+unfolding readParts sayOf sayTable anyBig bigValue tooBig any operands compared cellBy leftBy rightBy targetBy cellOf jumpOf noTarget key number
+says-CL (step nothing (step (aimed {w} _) done)) = acts-says 6 0 _ (CL w Always) false refl refl (λ b. refl)
+
+sound-CL : {q : Parts} → Filled (Is (ascii "CL") ∷ Target ∷ []) noParts q → Sound (Acts (CL (q .name) Always))
+unfolding targets writes operands compared
+sound-CL (step nothing (step (aimed a) done)) = record { aims = (a, tt); sets = tt; reads = tt }
+
+says-CL-if : {q : Parts} → Filled (Is (ascii "CL") ∷ Target ∷ Is (ascii ",") ∷ Left ∷ Comparison ∷ Right ∷ []) noParts q → readParts 10 q ≡ lineReading (Acts (CL (q .name) (Compare (q .left) (q .selector) (q .right))))
+unfolding readParts sayOf sayTable anyBig bigValue tooBig any operands compared cellBy leftBy rightBy targetBy cellOf jumpOf noTarget key number
+says-CL-if (step nothing (step (aimed {w} _) (step nothing (step (onTheLeft {x} _) (step (compares {c}) (step (onTheRight {y} _) done)))))) = two-says 6 0 c (key w) _ x y (CL w (Compare x c y)) refl refl refl refl
+
+sound-CL-if : {q : Parts} → Filled (Is (ascii "CL") ∷ Target ∷ Is (ascii ",") ∷ Left ∷ Comparison ∷ Right ∷ []) noParts q → Sound (Acts (CL (q .name) (Compare (q .left) (q .selector) (q .right))))
+unfolding targets writes operands compared
+sound-CL-if (step nothing (step (aimed a) (step nothing (step (onTheLeft d) (step compares (step (onTheRight e) done)))))) = record { aims = (a, tt); sets = tt; reads = (d, (e, tt)) }
+
+says-RT : {q : Parts} → Filled (Is (ascii "RT") ∷ []) noParts q → readParts 11 q ≡ lineReading (Acts RT)
+unfolding readParts sayOf sayTable anyBig bigValue tooBig any operands compared cellBy leftBy rightBy targetBy cellOf jumpOf noTarget key number
+says-RT (step nothing done) = acts-says 7 0 _ RT false refl refl (λ b. refl)
+
+sound-RT : {q : Parts} → Filled (Is (ascii "RT") ∷ []) noParts q → Sound (Acts RT)
+unfolding targets writes operands compared
+sound-RT (step nothing done) = record { aims = tt; sets = tt; reads = tt }
+
+says-E : {q : Parts} → Filled (Is (ascii "E") ∷ []) noParts q → readParts 12 q ≡ lineReading (Acts E)
+unfolding readParts sayOf sayTable anyBig bigValue tooBig any operands compared cellBy leftBy rightBy targetBy cellOf jumpOf noTarget key number
+says-E (step nothing done) = acts-says 8 0 _ E false refl refl (λ b. refl)
+
+sound-E : {q : Parts} → Filled (Is (ascii "E") ∷ []) noParts q → Sound (Acts E)
+unfolding targets writes operands compared
+sound-E (step nothing done) = record { aims = tt; sets = tt; reads = tt }
+
+says-H : {q : Parts} → Filled (Is (ascii "H") ∷ []) noParts q → readParts 13 q ≡ lineReading (Acts H)
+unfolding readParts sayOf sayTable anyBig bigValue tooBig any operands compared cellBy leftBy rightBy targetBy cellOf jumpOf noTarget key number
+says-H (step nothing done) = acts-says 9 0 _ H false refl refl (λ b. refl)
+
+sound-H : {q : Parts} → Filled (Is (ascii "H") ∷ []) noParts q → Sound (Acts H)
+unfolding targets writes operands compared
+sound-H (step nothing done) = record { aims = tt; sets = tt; reads = tt }
+
+says-hold : {q : Parts} → Filled (Is (ascii "H") ∷ Left ∷ []) noParts q → readParts 14 q ≡ lineReading (Acts (Hold (q .left)))
+unfolding readParts sayOf sayTable anyBig bigValue tooBig any operands compared cellBy leftBy rightBy targetBy cellOf jumpOf noTarget key number
+says-hold (step nothing (step (onTheLeft {x} _) done)) = one-says 9 0 _ x (Hold x) refl refl refl refl
+
+sound-hold : {q : Parts} → Filled (Is (ascii "H") ∷ Left ∷ []) noParts q → Sound (Acts (Hold (q .left)))
+unfolding targets writes operands compared
+sound-hold (step nothing (step (onTheLeft d) done)) = record { aims = tt; sets = tt; reads = (d, tt) }
+
+says-OE : {q : Parts} → Filled (Is (ascii "OE") ∷ Target ∷ []) noParts q → readParts 15 q ≡ lineReading (Acts (OE (q .name)))
+unfolding readParts sayOf sayTable anyBig bigValue tooBig any operands compared cellBy leftBy rightBy targetBy cellOf jumpOf noTarget key number
+says-OE (step nothing (step (aimed {w} _) done)) = acts-says 10 0 _ (OE w) false refl refl (λ b. refl)
+
+sound-OE : {q : Parts} → Filled (Is (ascii "OE") ∷ Target ∷ []) noParts q → Sound (Acts (OE (q .name)))
+unfolding targets writes operands compared
+sound-OE (step nothing (step (aimed a) done)) = record { aims = (a, tt); sets = tt; reads = tt }
+
+says-disarm : {q : Parts} → Filled (Is (ascii "OE") ∷ Is (ascii "0") ∷ []) noParts q → readParts 16 q ≡ lineReading (Acts Disarm)
+unfolding readParts sayOf sayTable anyBig bigValue tooBig any operands compared cellBy leftBy rightBy targetBy cellOf jumpOf noTarget key number
+says-disarm (step nothing (step nothing done)) = acts-says 10 3 _ Disarm false refl refl (λ b. refl)
+
+sound-disarm : {q : Parts} → Filled (Is (ascii "OE") ∷ Is (ascii "0") ∷ []) noParts q → Sound (Acts Disarm)
+unfolding targets writes operands compared
+sound-disarm (step nothing (step nothing done)) = record { aims = tt; sets = tt; reads = tt }
+
+says-MA : {q : Parts} → Filled (Is (ascii "MA") ∷ Left ∷ []) noParts q → readParts 17 q ≡ lineReading (Acts (MA (q .left)))
+unfolding readParts sayOf sayTable anyBig bigValue tooBig any operands compared cellBy leftBy rightBy targetBy cellOf jumpOf noTarget key number
+says-MA (step nothing (step (onTheLeft {x} _) done)) = one-says 11 0 _ x (MA x) refl refl refl refl
+
+sound-MA : {q : Parts} → Filled (Is (ascii "MA") ∷ Left ∷ []) noParts q → Sound (Acts (MA (q .left)))
+unfolding targets writes operands compared
+sound-MA (step nothing (step (onTheLeft d) done)) = record { aims = tt; sets = tt; reads = (d, tt) }
+
+says-MR : {q : Parts} → Filled (Is (ascii "MR") ∷ Left ∷ []) noParts q → readParts 18 q ≡ lineReading (Acts (MR (q .left)))
+unfolding readParts sayOf sayTable anyBig bigValue tooBig any operands compared cellBy leftBy rightBy targetBy cellOf jumpOf noTarget key number
+says-MR (step nothing (step (onTheLeft {x} _) done)) = one-says 12 0 _ x (MR x) refl refl refl refl
+
+sound-MR : {q : Parts} → Filled (Is (ascii "MR") ∷ Left ∷ []) noParts q → Sound (Acts (MR (q .left)))
+unfolding targets writes operands compared
+sound-MR (step nothing (step (onTheLeft d) done)) = record { aims = tt; sets = tt; reads = (d, tt) }
+
+says-SL : {q : Parts} → Filled (Is (ascii "SL") ∷ Left ∷ []) noParts q → readParts 19 q ≡ lineReading (Acts (SL (q .left)))
+unfolding readParts sayOf sayTable anyBig bigValue tooBig any operands compared cellBy leftBy rightBy targetBy cellOf jumpOf noTarget key number
+says-SL (step nothing (step (onTheLeft {x} _) done)) = one-says 13 0 _ x (SL x) refl refl refl refl
+
+sound-SL : {q : Parts} → Filled (Is (ascii "SL") ∷ Left ∷ []) noParts q → Sound (Acts (SL (q .left)))
+unfolding targets writes operands compared
+sound-SL (step nothing (step (onTheLeft d) done)) = record { aims = tt; sets = tt; reads = (d, tt) }
+
+says-PR : {q : Parts} → Filled (Is (ascii "PR") ∷ Left ∷ []) noParts q → readParts 20 q ≡ lineReading (Acts (PR (q .left)))
+unfolding readParts sayOf sayTable anyBig bigValue tooBig any operands compared cellBy leftBy rightBy targetBy cellOf jumpOf noTarget key number
+says-PR (step nothing (step (onTheLeft {x} _) done)) = one-says 14 0 _ x (PR x) refl refl refl refl
+
+sound-PR : {q : Parts} → Filled (Is (ascii "PR") ∷ Left ∷ []) noParts q → Sound (Acts (PR (q .left)))
+unfolding targets writes operands compared
+sound-PR (step nothing (step (onTheLeft d) done)) = record { aims = tt; sets = tt; reads = (d, tt) }
+
+pub rows : Rows (formNumbers 21 0) forms
+unfolding formNumbers forms slotsOf slotTable ascii nameOf
+rows =
+    (next (record { slots = slot (fixed 16972 tt) (slot new (skip (skip (skip (skip end))))); says = says-LB; sound = sound-LB })
+    (next (record { slots = slot (fixed 16726 tt) (slot new (skip (skip (skip (skip end))))); says = says-VA; sound = sound-VA })
+    (next (record { slots = slot (fixed 16726 tt) (slot new (slot (fixed 61 tt) (slot start (skip (skip end))))); says = says-VA-start; sound = sound-VA-start })
+    (next (record { slots = slot written (slot (fixed 61 tt) (slot left (skip (skip (skip end))))); says = says-set; sound = sound-set })
+    (next (record { slots = slot written (slot (fixed 61 tt) (slot left (slot operator (slot right (skip end))))); says = says-set-with; sound = sound-set-with })
+    (next (record { slots = slot (fixed 17225 tt) (slot written (skip (skip (skip (skip end))))); says = says-IC; sound = sound-IC })
+    (next (record { slots = slot (fixed 17220 tt) (slot written (skip (skip (skip (skip end))))); says = says-DC; sound = sound-DC })
+    (next (record { slots = slot (fixed 21058 tt) (slot target (skip (skip (skip (skip end))))); says = says-BR; sound = sound-BR })
+    (next (record { slots = slot (fixed 21058 tt) (slot target (slot (fixed 44 tt) (slot left (slot comparison (slot right end))))); says = says-BR-if; sound = sound-BR-if })
+    (next (record { slots = slot (fixed 19523 tt) (slot target (skip (skip (skip (skip end))))); says = says-CL; sound = sound-CL })
+    (next (record { slots = slot (fixed 19523 tt) (slot target (slot (fixed 44 tt) (slot left (slot comparison (slot right end))))); says = says-CL-if; sound = sound-CL-if })
+    (next (record { slots = slot (fixed 21586 tt) (skip (skip (skip (skip (skip end))))); says = says-RT; sound = sound-RT })
+    (next (record { slots = slot (fixed 69 tt) (skip (skip (skip (skip (skip end))))); says = says-E; sound = sound-E })
+    (next (record { slots = slot (fixed 72 tt) (skip (skip (skip (skip (skip end))))); says = says-H; sound = sound-H })
+    (next (record { slots = slot (fixed 72 tt) (slot left (skip (skip (skip (skip end))))); says = says-hold; sound = sound-hold })
+    (next (record { slots = slot (fixed 17743 tt) (slot target (skip (skip (skip (skip end))))); says = says-OE; sound = sound-OE })
+    (next (record { slots = slot (fixed 17743 tt) (slot (fixed 48 tt) (skip (skip (skip (skip end))))); says = says-disarm; sound = sound-disarm })
+    (next (record { slots = slot (fixed 16717 tt) (slot left (skip (skip (skip (skip end))))); says = says-MA; sound = sound-MA })
+    (next (record { slots = slot (fixed 21069 tt) (slot left (skip (skip (skip (skip end))))); says = says-MR; sound = sound-MR })
+    (next (record { slots = slot (fixed 19539 tt) (slot left (skip (skip (skip (skip end))))); says = says-SL; sound = sound-SL })
+    (next (record { slots = slot (fixed 21072 tt) (slot left (skip (skip (skip (skip end))))); says = says-PR; sound = sound-PR })
+    last)))))))))))))))))))))

@@ -1,0 +1,23 @@
+-- `Match::cell` meets its contract.
+-- Assumes nothing.
+use borrow.Author.Needs.{needs}
+use Rattle.text.specs.Code.{cellBy}
+use Rattle.text.proofs.Matching.{key-spelt}
+use Rattle.text.proofs.forms.Match.cell.Statement.{statement}
+use Rattle.text.proofs.forms.Match.cell.Tie as tie
+
+left-requires : tie.Need-left-requires
+left-requires c κs = search needs
+
+right-requires : tie.Need-right-requires
+right-requires c κs = search needs
+
+target-requires : tie.Need-target-requires
+target-requires c κs = search needs
+
+returns : tie.Need-returns
+unfolding cellBy
+returns c = rw (c .before .before .left .ensures, c .before .right .ensures, c .target .ensures, key-spelt, key-spelt)
+
+pub cell-spec : {M : Type 1} → statement M
+cell-spec = tie.close (tie.spec left-requires right-requires target-requires returns)

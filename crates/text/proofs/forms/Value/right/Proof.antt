@@ -1,0 +1,21 @@
+-- `Value::right` meets its contract.
+-- Assumes nothing.
+use borrow.Author.Needs.{needs}
+use Rattle.numbers.proofs.Kit.{tests}
+use Rattle.text.specs.Code.{rightBy}
+use Rattle.text.proofs.forms.Value.right.Statement.{statement}
+use Rattle.text.proofs.forms.Value.right.Tie as tie
+
+operand-requires : tie.Need-operand-requires
+operand-requires c κs = search needs
+
+returns : tie.Need-returns
+unfolding rightBy
+returns c = rw (c .operand .ensures) (search tests)
+
+returns-2 : tie.Need-returns-2
+unfolding rightBy
+returns-2 c = search tests
+
+pub right-spec : {M : Type 1} → statement M
+right-spec = tie.close (tie.spec operand-requires returns returns-2)
