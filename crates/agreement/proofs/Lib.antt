@@ -1,2 +1,12 @@
 pub mod Meaning
 pub mod Runs
+pub mod Parsed
+pub mod Sound
+pub mod Words
+pub mod Places
+pub mod Records
+pub mod References
+pub mod Cells
+pub mod Course
+pub mod Names
+pub mod Checked

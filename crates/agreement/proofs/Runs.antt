@@ -1,10 +1,10 @@
 -- Two ways to find what the next statement does give one run, where they agree on every machine that is not past the last cell.
 -- Assumes nothing.
-use mathlib.Core.Path.{_≡_, refl, sym, ap, _∙_}
+use mathlib.Core.Path.{_≡_, refl, _∙_}
 use mathlib.Core.Bool.{Bool, true, false, cond}
-use mathlib.Core.List.{List, [], _∷_, _++_}
+use mathlib.Core.List.{List, [], _∷_}
 use Prim.Native.Nat.{ℕ, zero, suc, _<_}
-use borrow.Author.Tests.{lt-leb, leb-false}
+use borrow.Author.Tests.{leb-false}
 use lib.Dec.{leb, eqb}
 use Rattle.machine.specs.declared.Machine.{Machine}
 use Rattle.machine.specs.declared.Motion.{Motion}
@@ -13,7 +13,7 @@ use Rattle.machine.specs.declared.Effect.{Effect}
 use Rattle.machine.specs.declared.Event.{Event}
 use Rattle.machine.specs.Turn.{turn, inMotion}
 use Rattle.machine.specs.Events.{happens, arrivedBy}
-use Rattle.machine.specs.Run.{Course, runFrom, reach}
+use Rattle.machine.specs.Run.{runFrom, reach}
 
 -- an event leaves the next cell
 arrived-next : (k : Motion) (m : Machine) → arrivedBy k m .next ≡ m .next

@@ -1,12 +1,10 @@
 -- Document 01, "Text", and demand 3: a text followed line by line, each name looked up when it is needed. No cell, no image.
 -- Assumes nothing.
-use mathlib.Core.List.{List, [], _∷_}
-use Prim.Native.Nat.{ℕ, zero, suc}
-use lib.IntN.{ℤ}
-use Rattle.program.specs.Names.{Name}
-use Rattle.program.specs.Statements.{Statement, E}
-use Rattle.text.specs.Forms.{Line, Blank, Label, Declared, Acts}
+use mathlib.Core.List.{List}
+use Prim.Native.Nat.{ℕ}
+use Rattle.text.specs.Forms.{Line}
 use Rattle.text.specs.Faults.{said, count, makesCell, placeOf, numberOf}
+use Rattle.translation.specs.Places.{lineAt, starts}
 use Rattle.machine.specs.declared.Machine.{Machine}
 use Rattle.machine.specs.declared.Effect.{Effect}
 use Rattle.machine.specs.Effects.{effect}
@@ -16,23 +14,6 @@ use Rattle.machine.specs.Run.{Course, runFrom}
 use Rattle.running.specs.Courses.{over}
 use Rattle.bench.specs.Running.{ranAs}
 use Rattle.bench.specs.declared.Ran.{Ran}
-
--- Text 9: the statement at a place: the line with so many cell lines before it. Past the last there is none, and a run has ended there.
-unfoldable pub lineAt : List Line → ℕ → Statement Name
-lineAt [] n = E
-lineAt (Blank ∷ xs) n = lineAt xs n
-lineAt (Label w ∷ xs) n = lineAt xs n
-lineAt (Declared w z ∷ xs) n = lineAt xs n
-lineAt (Acts s ∷ xs) zero = s
-lineAt (Acts s ∷ xs) (suc n) = lineAt xs n
-
--- Variables 3: the start values of the user's variables.
-unfoldable pub starts : List Line → List ℤ
-starts [] = []
-starts (Blank ∷ xs) = starts xs
-starts (Label w ∷ xs) = starts xs
-starts (Declared w z ∷ xs) = z ∷ starts xs
-starts (Acts s ∷ xs) = starts xs
 
 -- Turn 7: what the line at the machine's next place does; a label's place and a variable's number are found by name.
 unfoldable pub lineActs : List Line → Machine → Effect

@@ -102,24 +102,24 @@ module _ (c : Cell) (good : GoodCell c) (xs ys : List ℕ) (k : ℕ) (e : length
 
 -- A statement with the places and numbers of its references: what it writes and reads is there, what it names has a label.
 module _ {R : Type 0} (place number : R → ℕ) (s : List ℕ) (variables : ℕ) where
-  pub Writes : R → Type 0
+  unfoldable pub Writes : R → Type 0
   Writes v = (present variables (number v) && not (readOnly (number v))) ≡ true
 
-  pub Reads : Value R → Type 0
+  unfoldable pub Reads : Value R → Type 0
   Reads (Literal z) = inRange literals z ≡ true
   Reads (Variable v) = present variables (number v) ≡ true
 
-  pub Names : R → Type 0
+  unfoldable pub Names : R → Type 0
   Names n = labelled s (place n) ≡ true
 
-  pub Chooses : ℕ → ℕ → Type 0
+  unfoldable pub Chooses : ℕ → ℕ → Type 0
   Chooses last n = (leb 1 n && leb n last) ≡ true
 
-  pub Compares : Condition R → Type 0
+  unfoldable pub Compares : Condition R → Type 0
   Compares Always = Unit {0}
   Compares (Compare x c y) = Reads x × Chooses 6 c × Reads y
 
-  pub Acceptable : Statement R → Type 0
+  unfoldable pub Acceptable : Statement R → Type 0
   Acceptable (Set v x) = Writes v × Reads x
   Acceptable (SetWith v x o y) = Writes v × Reads x × Chooses 7 o × Reads y
   Acceptable (IC v) = Writes v

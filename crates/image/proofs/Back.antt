@@ -30,7 +30,7 @@ field-behind w o xs zs e = rw (← e, drop-append-add xs zs o)
 -- ---- a cell
 
 -- A literal of 32 bits, a variable number of 32 bits.
-pub GoodOperand : Operand → Type 0
+unfoldable pub GoodOperand : Operand → Type 0
 GoodOperand Nothing = Unit {0}
 GoodOperand (Literal z) = SFits w32 z
 GoodOperand (Variable v) = v < 2 ^ 32

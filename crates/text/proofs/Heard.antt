@@ -145,7 +145,7 @@ variable-kind (Declared w z) = refl
 variable-kind (Acts s) = refl
 
 -- The name that a line declares, by its key.
-eqb-turn : (a b : ℕ) → eqb a b ≡ eqb b a
+pub eqb-turn : (a b : ℕ) → eqb a b ≡ eqb b a
 eqb-turn a b = same-test (eqb a b) (eqb b a) (λ t. subst (λ (k : ℕ). T (eqb k a)) (eqb→eq a b t) (eqb-refl a)) (λ t. subst (λ (k : ℕ). T (eqb k b)) (eqb→eq b a t) (eqb-refl b))
 
 or-false : (b : Bool) → (b || false) ≡ b

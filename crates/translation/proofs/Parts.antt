@@ -72,7 +72,7 @@ variable-length (Acts s) h = refl
 
 -- The parts of all lines.
 module _ (f : Line → List ℕ) (p : Line → Bool) (size : ℕ) where
-  abbrev Sized : List Line → Type 0
+  abbrev pub Sized : List Line → Type 0
   Sized [] = Unit {0}
   Sized (x ∷ xs) = (length (f x) ≡ each (p x) size) × Sized xs
 
@@ -81,20 +81,20 @@ module _ (f : Line → List ℕ) (p : Line → Bool) (size : ℕ) where
   sum-each true n = omega (arith, mul-suc size n)
   sum-each false n = omega arith
 
-  joined-length : (xs : List Line) → Sized xs → length (joined f xs) ≡ size * count p xs
+  pub joined-length : (xs : List Line) → Sized xs → length (joined f xs) ≡ size * count p xs
   unfolding joined count
   joined-length [] h = sym (mul-zero size)
   joined-length (x ∷ xs) h = length-append (f x) (joined f xs) ∙ rw (h .0, joined-length xs (h .1)) (sum-each (p x) (count p xs))
 
-cells-sized : (text xs : List Line) → Sized (cellPart text) makesCell 16 xs
+pub cells-sized : (text xs : List Line) → Sized (cellPart text) makesCell 16 xs
 cells-sized text [] = tt
 cells-sized text (x ∷ xs) = (cell-length text x, cells-sized text xs)
 
-labels-sized : (text xs : List Line) → AllTwo xs → Sized (labelPart text) makesLabel 4 xs
+pub labels-sized : (text xs : List Line) → AllTwo xs → Sized (labelPart text) makesLabel 4 xs
 labels-sized text [] h = tt
 labels-sized text (x ∷ xs) h = (label-length text x (h .0), labels-sized text xs (h .1))
 
-variables-sized : (xs : List Line) → AllTwo xs → Sized variablePart makesVariable 8 xs
+pub variables-sized : (xs : List Line) → AllTwo xs → Sized variablePart makesVariable 8 xs
 variables-sized [] h = tt
 variables-sized (x ∷ xs) h = (variable-length x (h .0), variables-sized xs (h .1))
 

@@ -1,0 +1,173 @@
+-- The cells of a text's image, read back: each is that of the line with as many cell lines before it.
+-- Assumes nothing.
+use mathlib.Core.Path.{_≡_, refl, sym, subst, ap, _∙_}
+use mathlib.Core.Bool.{Bool, true, false, _&&_, _||_, not}
+use mathlib.Core.List.{List, _∷_, _++_, append-assoc}
+use Prim.Native.Nat.{ℕ, _+_, _*_, _≤_, _<_}
+use native.Mathlib.Omega.{arith}
+use borrow.Author.Tests.{leb-true, ltb-true}
+use lib.Dec.{leb, ltb, lit<}
+use lib.ListN.{length}
+use Rattle.numbers.specs.Tests.{joined}
+use Rattle.numbers.proofs.Kit.{within32}
+use Rattle.program.specs.Names.{Name}
+use Rattle.program.specs.Variables.{literals, present, readOnly}
+use Rattle.program.specs.Cells.{cell, cellOf, jumpOf, operandOf, noTarget}
+use Rattle.program.specs.Statements.{Value, Literal, Variable, Condition, Always, Compare, Statement, Set, SetWith, IC, DC, BR, CL, RT, E, H, Hold, OE, Disarm, MA, MR, SL, PR}
+use Rattle.program.specs.declared.Operand.the-variants as O
+use Rattle.text.specs.Forms.{Line, Acts}
+use Rattle.text.specs.Faults.{count, makesCell, makesVariable, placeOf, numberOf}
+use Rattle.image.specs.Layout.{cellBytes, cellAt}
+use Rattle.image.proofs.Back.{GoodOperand, GoodCell, cell-back}
+use Rattle.image.proofs.Accepted.{Writes, Reads, Chooses, Compares, Acceptable}
+use Rattle.translation.specs.Images.{cellPart, labelPart, variablePart, imageOf}
+use Rattle.translation.specs.Places.{lineAt}
+use Rattle.translation.proofs.Parts.{joined-length, cells-sized}
+use Rattle.agreement.proofs.Parsed.{ParsedStatement}
+use Rattle.agreement.proofs.Sound.{Fine, Good, good, both-true}
+use Rattle.agreement.proofs.Places.{here, cell-is, line-at}
+use Rattle.agreement.proofs.Records.{trailer, part-at, place-below}
+use Rattle.agreement.proofs.References.{acceptable}
+
+-- A variable that is present has a number below 64, where there are at most 32 of the user's.
+present-below : (users n : ℕ) → users ≤ 32 → present users n ≡ true → n < 64
+present-below users n h e = go (leb 1 n && leb n 20) (leb 32 n && ltb n (32 + users)) refl refl e
+  where
+    go : (a b : Bool) → (leb 1 n && leb n 20) ≡ a → (leb 32 n && ltb n (32 + users)) ≡ b → (a || b) ≡ true → n < 64
+    go true b p q r = let l = leb-true n 20 (both-true (leb 1 n) (leb n 20) p .1) in omega arith
+    go false true p q r = let l = ltb-true n (32 + users) (both-true (leb 32 n) (ltb n (32 + users)) q .1) in omega arith
+    go false false p q r = let z : _≡_ {A = ℕ} 0 1 = cc in absurd (omega arith)
+
+-- The cell of an acceptable statement fits its bytes.
+module _ {R : Type 0} (place number : R → ℕ) (s : List ℕ) (variables : ℕ) (few : variables ≤ 32) (near : (n : R) → place n < 65536) where
+  good-written : (v : R) → Writes place number s variables v → number v < 256
+  unfolding Writes
+  good-written v h =
+      let l = present-below variables (number v) few (both-true (present variables (number v)) (not (readOnly (number v))) h .0) in
+      omega arith
+
+  good-operand : (x : Value R) → Reads place number s variables x → GoodOperand (operandOf place number x)
+  unfolding Reads GoodOperand operandOf
+  good-operand (Literal z) h = within32 (literals .lowest) (literals .highest) z refl refl h
+  good-operand (Variable v) h = let l = present-below variables (number v) few h in omega arith
+
+  good-selector : (last n : ℕ) → last < 256 → Chooses place number s variables last n → n < 256
+  unfolding Chooses
+  good-selector last n l h = let m = leb-true n last (both-true (leb 1 n) (leb n last) h .1) in omega arith
+
+  good-jump : (o : ℕ) (n : R) (c : Condition R) → o < 256 → Compares place number s variables c → GoodCell (jumpOf place number o n c)
+  unfolding Compares jumpOf GoodOperand
+  good-jump o n Always l h = record { operation = l; written = lit< tt; selector = lit< tt; left = tt; right = tt; target = near n }
+  good-jump o n (Compare x c y) l h =
+      record {
+        operation = l;
+        written = lit< tt;
+        selector = good-selector 6 c (lit< tt) (h .1);
+        left = good-operand x (h .0);
+        right = good-operand y (h .2);
+        target = near n;
+      }
+
+  -- a target and nothing else, one variable written, one operand
+  good-target : (o n : ℕ) → o < 256 → n < 65536 → GoodCell (cell o 0 0 O.Nothing O.Nothing n)
+  unfolding GoodOperand
+  good-target o n l h = record { operation = l; written = lit< tt; selector = lit< tt; left = tt; right = tt; target = h }
+
+  good-write : (o : ℕ) (v : R) → o < 256 → Writes place number s variables v → GoodCell (cell o (number v) 0 O.Nothing O.Nothing 0)
+  unfolding GoodOperand
+  good-write o v l h = record { operation = l; written = good-written v h; selector = lit< tt; left = tt; right = tt; target = lit< tt }
+
+  good-read : (o : ℕ) (x : Value R) → o < 256 → Reads place number s variables x → GoodCell (cell o 0 0 (operandOf place number x) O.Nothing 0)
+  unfolding GoodOperand
+  good-read o x l h = record { operation = l; written = lit< tt; selector = lit< tt; left = good-operand x h; right = tt; target = lit< tt }
+
+  pub good-cell : (st : Statement R) → Acceptable place number s variables st → GoodCell (cellOf place number st)
+  unfolding Acceptable cellOf GoodOperand noTarget
+  good-cell (Set v x) h =
+      record { operation = lit< tt; written = good-written v (h .0); selector = lit< tt; left = good-operand x (h .1); right = tt; target = lit< tt }
+  good-cell (SetWith v x o y) h =
+      record {
+        operation = lit< tt;
+        written = good-written v (h .0);
+        selector = good-selector 7 o (lit< tt) (h .2);
+        left = good-operand x (h .1);
+        right = good-operand y (h .3);
+        target = lit< tt;
+      }
+  good-cell (IC v) h = good-write 3 v (lit< tt) h
+  good-cell (DC v) h = good-write 4 v (lit< tt) h
+  good-cell (BR n c) h = good-jump 5 n c (lit< tt) (h .1)
+  good-cell (CL n c) h = good-jump 6 n c (lit< tt) (h .1)
+  good-cell RT h = good-target 7 0 (lit< tt) (lit< tt)
+  good-cell E h = good-target 8 0 (lit< tt) (lit< tt)
+  good-cell H h = good-target 9 0 (lit< tt) (lit< tt)
+  good-cell (Hold x) h = good-read 9 x (lit< tt) h
+  good-cell (OE n) h = good-target 10 (place n) (lit< tt) (near n)
+  good-cell Disarm h = good-target 10 65535 (lit< tt) (lit< tt)
+  good-cell (MA x) h = good-read 11 x (lit< tt) h
+  good-cell (MR x) h = good-read 12 x (lit< tt) h
+  good-cell (SL x) h = good-read 13 x (lit< tt) h
+  good-cell (PR x) h = good-read 14 x (lit< tt) h
+
+-- What stands behind a cell, with these lines behind its own.
+abbrev pub cellRest : List Line → List Line → List ℕ
+cellRest xs rest = joined (cellPart xs) rest ++ (joined (labelPart xs) xs ++ (joined variablePart xs ++ trailer xs))
+
+module _ (xs : List Line) (f : Fine xs) (before rest : List Line) (s : Statement Name) (e : xs ≡ before ++ (Acts s ∷ rest)) where
+  pub cell-good : GoodCell (cellOf (placeOf xs) (numberOf xs) s)
+  cell-good =
+      good-cell (placeOf xs) (numberOf xs) (imageOf xs) (count makesVariable xs) (f .variables) (place-below xs f) s
+      (acceptable xs f before s (good xs f before (Acts s) rest e))
+
+  pub cells-before : length (joined (cellPart xs) before) ≡ 16 * count makesCell before
+  cells-before = joined-length (cellPart xs) makesCell 16 before (cells-sized xs before)
+
+  pub cell-split : imageOf xs ≡ joined (cellPart xs) before ++ (cellBytes (cellOf (placeOf xs) (numberOf xs) s) ++ cellRest xs rest)
+  unfolding imageOf cellPart
+  cell-split =
+      ap (λ (l : List ℕ). l ++ (joined (labelPart xs) xs ++ (joined variablePart xs ++ trailer xs))) (part-at (cellPart xs) xs before (Acts s) rest e)
+      ∙ simp append-assoc
+
+  pub cell-read : cellAt (imageOf xs) (count makesCell before) ≡ cellOf (placeOf xs) (numberOf xs) s
+  cell-read =
+      ap (λ (i : List ℕ). cellAt i (count makesCell before)) cell-split
+      ∙ cell-back (cellOf (placeOf xs) (numberOf xs) s) cell-good (joined (cellPart xs) before) (cellRest xs rest) (count makesCell before) cells-before
+
+  pub line-read : lineAt xs (count makesCell before) ≡ s
+  line-read = ap (λ (ys : List Line). lineAt ys (count makesCell before)) e ∙ line-at before s rest
+
+-- The line that makes the cell with this number.
+pub record CellLine (xs : List Line) (k : ℕ) : Type 0 where
+  pub before : List Line
+  pub rest : List Line
+  pub whole : xs ≡ before ++ (Acts (lineAt xs k) ∷ rest)
+  pub rank : count makesCell before ≡ k
+
+pub cell-line : (xs : List Line) → Fine xs → (k : ℕ) → k < count makesCell xs → CellLine xs k
+cell-line xs f k h =
+    let i = here makesCell xs k h in
+    let c = cell-is (i .line) (i .passes) in
+    let e : xs ≡ i .before ++ (Acts (c .0) ∷ i .rest) = i .whole ∙ ap (λ (x : Line). i .before ++ (x ∷ i .rest)) (c .1) in
+    let l : lineAt xs k ≡ c .0 = subst (λ (j : ℕ). lineAt xs j ≡ c .0) (i .rank) (line-read xs f (i .before) (i .rest) (c .0) e) in
+    record { before = i .before; rest = i .rest; whole = e ∙ ap (λ (s : Statement Name). i .before ++ (Acts s ∷ i .rest)) (sym l); rank = i .rank }
+
+-- Image 3: the cell with this number is that of the statement at this place.
+pub cell-at : (xs : List Line) → Fine xs → (k : ℕ) → k < count makesCell xs → cellAt (imageOf xs) k ≡ cellOf (placeOf xs) (numberOf xs) (lineAt xs k)
+cell-at xs f k h =
+    let l = cell-line xs f k h in
+    subst (λ (j : ℕ). cellAt (imageOf xs) j ≡ cellOf (placeOf xs) (numberOf xs) (lineAt xs k)) (l .rank)
+    (cell-read xs f (l .before) (l .rest) (lineAt xs k) (l .whole))
+
+-- The statement at a place is well made, refers to what is there, and its cell fits its bytes.
+module _ (xs : List Line) (f : Fine xs) (k : ℕ) (h : k < count makesCell xs) where
+  pub line-good : (l : CellLine xs k) → Good xs (l .before) (Acts (lineAt xs k))
+  line-good l = good xs f (l .before) (Acts (lineAt xs k)) (l .rest) (l .whole)
+
+  pub line-parsed : ParsedStatement (lineAt xs k)
+  line-parsed = line-good (cell-line xs f k h) .parsed
+
+  pub line-acceptable : Acceptable (placeOf xs) (numberOf xs) (imageOf xs) (count makesVariable xs) (lineAt xs k)
+  line-acceptable = let l = cell-line xs f k h in acceptable xs f (l .before) (lineAt xs k) (line-good l)
+
+  pub line-cell-good : GoodCell (cellOf (placeOf xs) (numberOf xs) (lineAt xs k))
+  line-cell-good = let l = cell-line xs f k h in cell-good xs f (l .before) (l .rest) (lineAt xs k) (l .whole)

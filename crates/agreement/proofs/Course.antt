@@ -1,0 +1,63 @@
+-- Demand 3: the run of an accepted text's image is the run of the text, followed line by line.
+-- Assumes nothing.
+use mathlib.Core.Path.{_≡_, ap, _∙_}
+use mathlib.Core.Bool.{true}
+use mathlib.Core.List.{List}
+use Prim.Native.Nat.{ℕ, _<_}
+use Rattle.program.specs.Cells.{same, statementOf}
+use Rattle.text.specs.Forms.{Line}
+use Rattle.text.specs.Faults.{said, count, makesCell, placeOf, numberOf}
+use Rattle.image.specs.Layout.{cellCount, cellAt, startValues}
+use Rattle.machine.specs.declared.Machine.{Machine}
+use Rattle.machine.specs.declared.Effect.{Effect}
+use Rattle.machine.specs.declared.Event.{Event}
+use Rattle.machine.specs.Effects.{effect}
+use Rattle.machine.specs.Turn.{startMachine}
+use Rattle.machine.specs.Run.{runFrom}
+use Rattle.translation.specs.Images.{imageOf, image, accepted}
+use Rattle.translation.specs.Places.{lineAt, starts}
+use Rattle.agreement.proofs.Meaning.{effect-cell}
+use Rattle.agreement.proofs.Runs.{run-same}
+use Rattle.agreement.proofs.Sound.{Fine, fine}
+use Rattle.agreement.proofs.Words.{selected}
+use Rattle.agreement.proofs.Records.{cell-count, start-values}
+use Rattle.agreement.proofs.Cells.{cell-at, line-parsed}
+
+-- What the next cell of an image does, what the next line of a text does.
+abbrev pub byCell : List ℕ → Machine → Effect
+byCell s m = effect same same (m .variables) (m .kept) (m .hold) (statementOf (cellAt s (m .next)))
+
+abbrev pub byLine : List Line → Machine → Effect
+byLine xs m = effect (placeOf xs) (numberOf xs) (m .variables) (m .kept) (m .hold) (lineAt xs (m .next))
+
+module _ (xs : List Line) (f : Fine xs) where
+  -- a cell does what its line does
+  pub same-act : (m : Machine) → m .next < count makesCell xs → byCell (imageOf xs) m ≡ byLine xs m
+  same-act m h =
+      ap (λ c. effect same same (m .variables) (m .kept) (m .hold) (statementOf c)) (cell-at xs f (m .next) h)
+      ∙ effect-cell (placeOf xs) (numberOf xs) (m .variables) (m .kept) (m .hold) (lineAt xs (m .next))
+      (selected (lineAt xs (m .next)) (line-parsed xs f (m .next) h))
+
+  pub same-run : (left t : ℕ) (es : List Event) (m : Machine)
+      → runFrom (byCell (imageOf xs)) (cellCount (imageOf xs)) left t es m ≡ runFrom (byLine xs) (count makesCell xs) left t es m
+  same-run left t es m =
+      ap (λ (n : ℕ). runFrom (byCell (imageOf xs)) n left t es m) (cell-count xs f)
+      ∙ run-same (byCell (imageOf xs)) (byLine xs) (count makesCell xs) same-act left t es m
+
+-- An accepted text and its image: one run from any machine, one machine to start from, and so one course.
+module _ (text : List ℕ) (ok : accepted text ≡ true) where
+  pub same-from : (left t : ℕ) (es : List Event) (m : Machine)
+      → runFrom (byCell (image text)) (cellCount (image text)) left t es m ≡ runFrom (byLine (said text)) (count makesCell (said text)) left t es m
+  unfolding image
+  same-from left t es m = same-run (said text) (fine text ok) left t es m
+
+  pub same-start : startMachine (startValues (image text)) ≡ startMachine (starts (said text))
+  unfolding image
+  same-start = ap startMachine (start-values (said text) (fine text ok))
+
+  pub same-course : (budget : ℕ) (es : List Event)
+      → runFrom (byCell (image text)) (cellCount (image text)) budget 0 es (startMachine (startValues (image text)))
+      ≡ runFrom (byLine (said text)) (count makesCell (said text)) budget 0 es (startMachine (starts (said text)))
+  same-course budget es =
+      same-from budget 0 es (startMachine (startValues (image text)))
+      ∙ ap (runFrom (byLine (said text)) (count makesCell (said text)) budget 0 es) same-start

@@ -1,0 +1,203 @@
+-- What a statement of an accepted text refers to is there: its labels have records, its variables numbers that are present.
+-- Assumes nothing.
+use mathlib.Core.Path.{_≡_, refl, sym, subst, ap}
+use mathlib.Core.Bool.{Bool, true, false, cond, _&&_, _||_, not}
+use mathlib.Core.List.{List, [], _∷_, _++_}
+use Prim.Native.Nat.{ℕ, _+_, _≤_, _<_}
+use native.Mathlib.Omega.{arith}
+use borrow.Author.Tests.{le-leb, lt-leb, lt-ltb, eq-eqb, eqb-false, not-false}
+use lib.Dec.{T, eqb, leb}
+use Rattle.numbers.specs.Tests.{any, eqList}
+use Rattle.program.specs.Names.{Name, paperVariable}
+use Rattle.program.specs.Variables.{inRange, literals, present, readOnly}
+use Rattle.program.specs.Statements.{Value, Literal, Variable, Condition, Always, Compare, Statement, Set, SetWith, IC, DC, BR, CL, RT, E, H, Hold, OE, Disarm, MA, MR, SL, PR, compared, operands, writes, targets}
+use Rattle.program.proofs.Places.{paper-most}
+use Rattle.program.proofs.Keys.{eqList-eq}
+use Rattle.text.specs.Forms.{Line, Blank, Label, Declared, Acts}
+use Rattle.text.specs.Faults.{count, makesLabel, makesVariable, declares, declaresIt, firstMakes, placeOf, rankOf, numberOf, unknownVariable, unknownValue, unknownIn, undeclared, readOnlyWritten, tooBig, bigValue, bigIn}
+use Rattle.image.specs.Layout.{labelTarget}
+use Rattle.image.specs.Code.{labelled}
+use Rattle.image.proofs.Any.{that-is, or-true}
+use Rattle.image.proofs.Accepted.{Writes, Reads, Names, Chooses, Compares, Acceptable}
+use Rattle.translation.specs.Images.{imageOf}
+use Rattle.agreement.proofs.Parsed.{UpTo, ParsedCondition, ParsedStatement}
+use Rattle.agreement.proofs.Sound.{Fine, Good, neither}
+use Rattle.agreement.proofs.Places.{rankBy, rank-rank, rank-below, count-behind}
+use Rattle.agreement.proofs.Records.{label-count, label-target}
+
+-- One or two of a list without a fault.
+module _ {A : Type 0} (p : A → Bool) where
+  one-none : (x : A) → any p (x ∷ []) ≡ false → p x ≡ false
+  unfolding any
+  one-none x e = neither (p x) false e .0
+
+  two-none : (x y : A) → any p (x ∷ y ∷ []) ≡ false → (p x ≡ false) × (p y ≡ false)
+  unfolding any
+  two-none x y e = let a = neither (p x) (p y || false) e in (a .0, neither (p y) false (a .1) .0)
+
+-- ---- variables
+
+and-false : (b : Bool) → (b && false) ≡ false
+and-false true = refl
+and-false false = refl
+
+-- A number of the paper's is present, and so is one of the user's.
+module _ (users n : ℕ) where
+  paper-present : 1 ≤ n → n ≤ 20 → present users n ≡ true
+  paper-present l m = rw (le-leb 1 n l, le-leb n 20 m)
+
+  user-present : n < users → present users (32 + n) ≡ true
+  user-present h =
+      rw (lt-leb (32 + n) 20 (omega arith), le-leb 32 (32 + n) (omega arith), lt-ltb (32 + n) (32 + users) (omega arith)) (or-true (leb 1 (32 + n) && false))
+
+  user-writable : readOnly (32 + n) ≡ false
+  user-writable = rw (lt-leb (32 + n) 20 (omega arith)) (and-false (leb 14 (32 + n)))
+
+module _ (xs : List Line) (v : Name) where
+  -- a variable that is known has a number that is present
+  pub number-present : unknownVariable xs v ≡ false → present (count makesVariable xs) (numberOf xs v) ≡ true
+  unfolding unknownVariable numberOf
+  number-present h = go (eqb (paperVariable v) 0) refl h
+    where
+      go : (b : Bool) → eqb (paperVariable v) 0 ≡ b → (b && not (firstMakes makesVariable v xs)) ≡ false
+          → present (count makesVariable xs) (cond b (32 + rankOf xs v) (paperVariable v)) ≡ true
+      go true e k =
+          let m = not-false (firstMakes makesVariable v xs) k in
+          rw (rank-rank xs v) (user-present (count makesVariable xs) (rankBy makesVariable xs v) (rank-below makesVariable v xs m))
+      go false e k =
+          let l = eqb-false (paperVariable v) 0 e in
+          paper-present (count makesVariable xs) (paperVariable v) (omega arith) (paper-most v)
+
+  -- and one that is not read-only by its name is not so by its number
+  pub number-writable : readOnly (paperVariable v) ≡ false → readOnly (numberOf xs v) ≡ false
+  unfolding numberOf
+  number-writable h = go (eqb (paperVariable v) 0)
+    where
+      go : (b : Bool) → readOnly (cond b (32 + rankOf xs v) (paperVariable v)) ≡ false
+      go true = user-writable 0 (rankOf xs v)
+      go false = h
+
+-- ---- labels
+
+-- The line of a label that the text has.
+pub record LabelOf (xs : List Line) (w : Name) : Type 0 where
+  pub before : List Line
+  pub rest : List Line
+  pub whole : xs ≡ before ++ (Label w ∷ rest)
+
+-- The first line that declares a name, where it makes a label.
+declares-label : (w : Name) (x : Line) → declaresIt w x ≡ true → makesLabel x ≡ true → x ≡ Label w
+unfolding declaresIt declares any makesLabel
+declares-label w Blank d m = let z : _≡_ {A = ℕ} 0 1 = cc in absurd (omega arith)
+declares-label w (Label v) d m = ap Label (sym (eqList-eq w v (only (eqList w v) d)))
+  where
+    only : (b : Bool) → (b || false) ≡ true → T b
+    only true e = tt
+    only false e = let z : _≡_ {A = ℕ} 0 1 = cc in absurd (omega arith)
+declares-label w (Declared v y) d m = let z : _≡_ {A = ℕ} 0 1 = cc in absurd (omega arith)
+declares-label w (Acts s) d m = let z : _≡_ {A = ℕ} 0 1 = cc in absurd (omega arith)
+
+pub label-of : (xs : List Line) (w : Name) → firstMakes makesLabel w xs ≡ true → LabelOf xs w
+unfolding firstMakes
+label-of [] w e = let z : _≡_ {A = ℕ} 0 1 = cc in absurd (omega arith)
+label-of (x ∷ xs) w e = go (declaresIt w x) refl e (label-of xs w)
+  where
+    go : (b : Bool) → declaresIt w x ≡ b → cond b (makesLabel x) (firstMakes makesLabel w xs) ≡ true
+        → (firstMakes makesLabel w xs ≡ true → LabelOf xs w) → LabelOf (x ∷ xs) w
+    go true d m r = record { before = []; rest = xs; whole = ap (λ (y : Line). y ∷ xs) (declares-label w x d m) }
+    go false d m r =
+        let l = r m in
+        record { before = x ∷ l .before; rest = l .rest; whole = ap (λ (ys : List Line). x ∷ ys) (l .whole) }
+
+module _ (xs : List Line) (f : Fine xs) where
+  -- a label that is declared has a record with its place
+  pub label-there : (w : Name) → firstMakes makesLabel w xs ≡ true → labelled (imageOf xs) (placeOf xs w) ≡ true
+  unfolding labelled makesLabel
+  label-there w e =
+      let l = label-of xs w e in
+      let below : count makesLabel (l .before) < count makesLabel xs =
+      subst (λ (ys : List Line). count makesLabel (l .before) < count makesLabel ys) (sym (l .whole)) (count-behind makesLabel (l .before) (Label w) (l .rest) refl) in
+      sym
+      (that-is (λ k. eqb (labelTarget (imageOf xs) k) (placeOf xs w)) (count makesLabel (l .before)) (sym (label-count xs f)) below refl
+      (eq-eqb (labelTarget (imageOf xs) (count makesLabel (l .before))) (placeOf xs w) (label-target xs f (l .before) (l .rest) w (l .whole))))
+
+  -- ---- a statement
+
+  abbrev Writes′ : Name → Type 0
+  Writes′ v = Writes (placeOf xs) (numberOf xs) (imageOf xs) (count makesVariable xs) v
+
+  abbrev Reads′ : Value Name → Type 0
+  Reads′ x = Reads (placeOf xs) (numberOf xs) (imageOf xs) (count makesVariable xs) x
+
+  abbrev Names′ : Name → Type 0
+  Names′ n = Names (placeOf xs) (numberOf xs) (imageOf xs) (count makesVariable xs) n
+
+  abbrev Chooses′ : ℕ → ℕ → Type 0
+  Chooses′ last n = Chooses (placeOf xs) (numberOf xs) (imageOf xs) (count makesVariable xs) last n
+
+  written : (v : Name) → any (unknownVariable xs) (v ∷ []) ≡ false → any (λ u. readOnly (paperVariable u)) (v ∷ []) ≡ false → Writes′ v
+  unfolding Writes
+  written v u r =
+      rw (
+        number-present xs v (one-none (unknownVariable xs) v u),
+        number-writable xs v (one-none (λ u. readOnly (paperVariable u)) v r),
+      )
+
+  known : (x : Value Name) → bigValue x ≡ false → unknownValue xs x ≡ false → Reads′ x
+  unfolding Reads bigValue tooBig unknownValue
+  known (Literal z) b u = not-false (inRange literals z) b
+  known (Variable v) b u = number-present xs v u
+
+  named : (n : Name) → any (λ n. not (firstMakes makesLabel n xs)) (n ∷ []) ≡ false → Names′ n
+  unfolding Names
+  named n e = label-there n (not-false (firstMakes makesLabel n xs) (one-none (λ n. not (firstMakes makesLabel n xs)) n e))
+
+  chosen : (last n : ℕ) → UpTo last n → Chooses′ last n
+  unfolding Chooses
+  chosen last n h = rw (le-leb 1 n (h .0), le-leb n last (h .1))
+
+  read-one : (x : Value Name) → any bigValue (x ∷ []) ≡ false → any (unknownValue xs) (x ∷ []) ≡ false → Reads′ x
+  read-one x b u = known x (one-none bigValue x b) (one-none (unknownValue xs) x u)
+
+  read-two : (x y : Value Name) → any bigValue (x ∷ y ∷ []) ≡ false → any (unknownValue xs) (x ∷ y ∷ []) ≡ false → Reads′ x × Reads′ y
+  read-two x y b u =
+      let c = two-none bigValue x y b in
+      let d = two-none (unknownValue xs) x y u in
+      (known x (c .0) (d .0), known y (c .1) (d .1))
+
+  compares : (c : Condition Name) → ParsedCondition c → any bigValue (compared c) ≡ false → any (unknownValue xs) (compared c) ≡ false
+      → Compares (placeOf xs) (numberOf xs) (imageOf xs) (count makesVariable xs) c
+  unfolding Compares compared
+  compares Always h b u = tt
+  compares (Compare x c y) h b u = let r = read-two x y b u in (r .0, chosen 6 c (h .1), r .1)
+
+  acts : (s : Statement Name) → ParsedStatement s → any bigValue (operands s) ≡ false
+      → any (λ n. not (firstMakes makesLabel n xs)) (targets s) ≡ false → any (unknownVariable xs) (writes s) ≡ false
+      → any (unknownValue xs) (operands s) ≡ false → any (λ v. readOnly (paperVariable v)) (writes s) ≡ false
+      → Acceptable (placeOf xs) (numberOf xs) (imageOf xs) (count makesVariable xs) s
+  unfolding Acceptable operands targets writes
+  acts (Set v x) h b t w u r = (written v w r, read-one x b u)
+  acts (SetWith v x o y) h b t w u r = let k = read-two x y b u in (written v w r, k .0, chosen 7 o (h .2), k .1)
+  acts (IC v) h b t w u r = written v w r
+  acts (DC v) h b t w u r = written v w r
+  acts (BR n c) h b t w u r = (named n t, compares c (h .1) b u)
+  acts (CL n c) h b t w u r = (named n t, compares c (h .1) b u)
+  acts RT h b t w u r = tt
+  acts E h b t w u r = tt
+  acts H h b t w u r = tt
+  acts (Hold x) h b t w u r = read-one x b u
+  acts (OE n) h b t w u r = named n t
+  acts Disarm h b t w u r = tt
+  acts (MA x) h b t w u r = read-one x b u
+  acts (MR x) h b t w u r = read-one x b u
+  acts (SL x) h b t w u r = read-one x b u
+  acts (PR x) h b t w u r = read-one x b u
+
+  -- the statement of a line of the text is one that the check of its image accepts
+  pub acceptable : (before : List Line) (s : Statement Name) → Good xs before (Acts s)
+      → Acceptable (placeOf xs) (numberOf xs) (imageOf xs) (count makesVariable xs) s
+  unfolding bigIn undeclared unknownIn readOnlyWritten
+  acceptable before s g =
+      let t = neither (any (λ n. not (firstMakes makesLabel n xs)) (targets s)) _ (g .known) in
+      let w = neither (any (unknownVariable xs) (writes s)) (any (unknownValue xs) (operands s)) (t .1) in
+      acts s (g .parsed) (g .small) (t .0) (w .0) (w .1) (g .writable)

@@ -1,0 +1,72 @@
+-- What is well made has words for names: the names that a line declares, and those in its statement.
+-- Assumes nothing.
+use mathlib.Core.Path.{_≡_}
+use mathlib.Core.Bool.{_&&_, not}
+use mathlib.Core.List.{List, [], _∷_, _++_}
+use mathlib.Core.Logic.{⊎-elim}
+use Prim.Native.Nat.{ℕ, _≤_, _<_}
+use native.Mathlib.Omega.{arith}
+use lib.Dec.{T, eqb, leb, leb→le, eqb→eq}
+use lib.ListN.{length}
+use Rattle.numbers.specs.Bytes.{number}
+use Rattle.program.specs.Names.{Name, letter, digit, wordCharacter, twoCharacters, paperVariable, reserved, userName}
+use Rattle.program.specs.Code.{key}
+use Rattle.program.specs.Cells.{noTarget}
+use Rattle.program.specs.Statements.{Value, Literal, Variable, Condition, Always, Compare, Statement, Set, SetWith, IC, DC, BR, CL, RT, E, H, Hold, OE, Disarm, MA, MR, SL, PR}
+use Rattle.program.proofs.Keys.{IsWord, both, either, two-word, user-word, paper-word}
+use Rattle.text.specs.Forms.{Line, Blank, Label, Declared, Acts, variableName}
+use Rattle.translation.proofs.Parts.{TwoNamed, AllTwo}
+use Rattle.agreement.proofs.Meaning.{Selected}
+use Rattle.agreement.proofs.Parsed.{Parsed, ParsedValue, ParsedCondition, ParsedStatement}
+use Rattle.agreement.proofs.Sound.{Sound, Fine}
+
+two-long : (w : Name) → T (twoCharacters w) → length w ≡ 2
+unfolding twoCharacters
+two-long w t = eqb→eq (length w) 2 (both (eqb (length w) 2) _ t .0)
+
+not-zero : (n : ℕ) → T (not (eqb n 0)) → n ≡ 0 → ⊥
+not-zero n t e = let h : T (not (eqb 0 0)) = rw e at t in h
+
+pub variable-word : (v : Name) → T (variableName v) → IsWord v
+unfolding variableName
+variable-word v t =
+    ⊎-elim
+    (λ h. paper-word v (not-zero (paperVariable v) h))
+    (λ h. user-word v h)
+    (either (not (eqb (paperVariable v) 0)) (userName v) t)
+
+-- The comparison of a condition.
+pub selected : (s : Statement Name) → ParsedStatement s → Selected s
+selected (Set v x) h = tt
+selected (SetWith v x o y) h = tt
+selected (IC v) h = tt
+selected (DC v) h = tt
+selected (BR n Always) h = tt
+selected (BR n (Compare x c y)) h = let l = h .1 .1 .0 in λ e. omega arith
+selected (CL n Always) h = tt
+selected (CL n (Compare x c y)) h = let l = h .1 .1 .0 in λ e. omega arith
+selected RT h = tt
+selected E h = tt
+selected H h = tt
+selected (Hold x) h = tt
+selected (OE n) h = tt
+selected Disarm h = tt
+selected (MA x) h = tt
+selected (MR x) h = tt
+selected (SL x) h = tt
+selected (PR x) h = tt
+
+-- The names that a line declares.
+pub two-named : (x : Line) → Parsed x → TwoNamed x
+two-named Blank h = tt
+two-named (Label w) h = two-long w h
+two-named (Declared w z) h = two-long w h
+two-named (Acts s) h = tt
+
+sound-two : (text before xs : List Line) → Sound text before xs → AllTwo xs
+sound-two text before [] h = tt
+sound-two text before (x ∷ xs) h = (two-named x (h .0 .parsed), sound-two text (before ++ (x ∷ [])) xs (h .1))
+
+module _ (xs : List Line) (f : Fine xs) where
+  pub all-two : AllTwo xs
+  all-two = sound-two xs [] xs (f .sound)

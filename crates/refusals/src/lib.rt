@@ -1,0 +1,1 @@
+// A refusal is given exactly when its row says so: theorems, no code.
