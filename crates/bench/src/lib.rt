@@ -1,5 +1,6 @@
 // The bench: translate a text, check an image, run an image. Its answers are plain data.
-ghost use Rattle.bench.specs.Calls.{Checks};
+mod answers;
+ghost use Rattle.bench.specs.Calls.{Checks, Runs};
 
 // Number 0, and the image's length; or the refusal with its line.
 pub struct Translated {
@@ -41,5 +42,38 @@ pub fn check(image: &[u8]) -> Checked
 {
     Checked {
         number: image::checked(image),
+    }
+}
+
+// Runs an image on a script of events for at most `budget` turns, and writes the records.
+pub fn run(image: &[u8], events: &[u8], budget: u64, records: &mut [u8]) -> Ran
+    ensures { λ r. ⌜ Runs (now (image .entry)) (now (events .entry)) budget (now (records .entry)) r (now (records .exit)) ⌝ }
+{
+    let number = image::checked(image);
+    if number != 0 {
+        return answers::refused(number, 0);
+    }
+    if machine::events::is_bad_script(events) {
+        return answers::refused(answers::BAD_SCRIPT, 0);
+    }
+    let bad = machine::events::first_bad_event(events);
+    if bad < machine::events::event_count(events) {
+        return answers::refused(answers::BAD_EVENT, bad);
+    }
+    if answers::MOST_TURNS < budget {
+        return answers::refused(answers::BIG_BUDGET, 0);
+    }
+    if records.len() < answers::RECORD * (budget as usize) {
+        return answers::refused(answers::SMALL_ROOM, 0);
+    }
+    let ended = running::course(image, events, budget as u32, records);
+    let state = answers::state_of(ended.machine);
+    Ran {
+        number: 0,
+        index: 0,
+        reason: ended.reason,
+        turns: ended.turns as u64,
+        records: ended.bytes / answers::RECORD,
+        state,
     }
 }

@@ -1,8 +1,8 @@
 -- The run of an image, turn by turn: what is left to run from here, behind the records written so far, gives the whole.
 -- Assumes nothing.
 use mathlib.Core.Path.{_≡_, refl, sym, ap, _∙_}
-use mathlib.Core.Bool.{Bool, true, false}
-use mathlib.Core.List.{List, [], _∷_, _++_, append-assoc, append-nil}
+use mathlib.Core.Bool.{true, false}
+use mathlib.Core.List.{List, [], _++_, append-assoc, append-nil}
 use Prim.Native.Nat.{ℕ, zero, suc, _+_, _*_, _-_, _≤_, _<_}
 use native.Mathlib.Nat.{sub-zero}
 use native.Mathlib.Numerals.{add-one}
@@ -24,20 +24,22 @@ use Rattle.machine.specs.Code.{Inputs}
 use Rattle.machine.proofs.Inputs.{inputs-start, inputs-turn}
 use Rattle.machine.proofs.Written.{record-most}
 use Rattle.running.specs.declared.Reached.{Reached}
-use Rattle.running.specs.declared.Ended.{Ended}
 use Rattle.running.specs.Courses.{cellActs, imageCourse, over}
 use Rattle.running.specs.Code.{eventsFrom, ReachedBy, EndedAs}
-use Rattle.running.proofs.Scripts.{events-all, reach-next}
+use Rattle.running.proofs.Scripts.{events-all}
 
 -- The run from turn t on, with the events from number k on.
 module _ (s script : List ℕ) (budget : ℕ) where
-  abbrev pub rest : ℕ → ℕ → Machine → Course
+  abbrev rest : ℕ → ℕ → Machine → Course
   rest t k m = runFrom (cellActs s) (cellCount s) (budget - t) t (eventsFrom script k) m
 
-  run-past : (left t : ℕ) (es : List Event) (m : Machine) → cellCount s ≤ m .next → runFrom (cellActs s) (cellCount s) left t es m ≡ ended 1 t m
+  past-by : (left t : ℕ) (es : List Event) (m : Machine) → cellCount s ≤ m .next → runFrom (cellActs s) (cellCount s) left t es m ≡ ended 1 t m
   unfolding runFrom
-  run-past zero t es m h = rw (le-leb (cellCount s) (m .next) h)
-  run-past (suc left) t es m h = rw (le-leb (cellCount s) (m .next) h)
+  past-by zero t es m h = rw (le-leb (cellCount s) (m .next) h)
+  past-by (suc left) t es m h = rw (le-leb (cellCount s) (m .next) h)
+
+  run-past : (t k : ℕ) (m : Machine) → cellCount s ≤ m .next → rest t k m ≡ ended 1 t m
+  run-past t k m h = past-by (budget - t) t (eventsFrom script k) m h
 
   run-spent : (t k : ℕ) (m : Machine) → m .next < cellCount s → budget ≤ t → rest t k m ≡ ended 3 t m
   unfolding runFrom
@@ -73,13 +75,16 @@ module _ (at : ℕ) (b bs : List ℕ) (fits : at + length bs ≤ length b) where
   drop-written : drop (at + length bs) (sets b at bs) ≡ drop (at + length bs) b
   drop-written = rw (sets-eq bs b at fits) (drop-at (take at b ++ bs) (drop (at + length bs) b) (at + length bs) in-front)
 
--- The buffer `b` has the records up to `at`, and behind them what it had at the start, in `b₀`.
+-- The buffer has the records up to `at`, and behind them what it had at the start, which is `b₀`; with what is left to run they give the whole.
 pub record Written (course : Course) (b₀ b : List ℕ) (at : ℕ) (left : Course) : Type 0 where
   pub inside : at ≤ length b
   pub behind : drop at b ≡ drop at b₀
   pub whole : after (take at b) left ≡ course
 
 -- A run that ended here.
+abbrev pub Ends : ℕ → ℕ → ℕ → Machine → Course → List ℕ → List ℕ → Type 0
+Ends reason t at m course b₀ b = EndedAs course (record { reason = reason; turns = t; bytes = at; machine = m }) b₀ b
+
 module _ {course : Course} {b₀ b : List ℕ} {at reason t : ℕ} {m : Machine} (w : Written course b₀ b at (ended reason t m)) where
   all-bytes : length (take at b ++ []) ≡ at
   all-bytes = rw append-nil (length-take-le at b (w .inside))
@@ -88,7 +93,7 @@ module _ {course : Course} {b₀ b : List ℕ} {at reason t : ℕ} {m : Machine}
   unfolding over
   all-over = rw (append-nil, length-take-le at b (w .inside), ← w .behind, take-append-drop)
 
-  pub ended-as : EndedAs course (record { reason = reason; turns = t; bytes = at; machine = m }) b₀ b
+  ended-as : Ends reason t at m course b₀ b
   ended-as =
       let e = w .whole in
       record {
@@ -135,41 +140,35 @@ module _ {s script : List ℕ} {budget : ℕ} {b₀ : List ℕ} where
       }
 
   module _ {b : List ℕ} {m : Machine} {t k at : ℕ} (u : Underway s script budget b₀ b m t k at) {cells : ℕ} (en : cells ≡ cellCount s) where
-    ended-by : {reason : ℕ} → rest s script budget t k m ≡ ended reason t m → EndedAs (imageCourse s script budget) (record { reason = reason; turns = t; bytes = at; machine = m }) b₀ b
-    ended-by e = ended-as (rw e at (u .written))
+    -- Turn 6: the next cell is past the last, or else the budget is used.
+    pub past-last : cells ≤ m .next → Ends 1 t at m (imageCourse s script budget) b₀ b
+    past-last h = ended-as (rw (run-past s script budget t k m (omega arith)) at (u .written))
 
-    -- Turn 6: the next cell is past the last; the budget is used.
-    pub past-last : cells ≤ m .next → EndedAs (imageCourse s script budget) (record { reason = 1; turns = t; bytes = at; machine = m }) b₀ b
-    past-last h = ended-by (run-past s script budget (budget - t) t (eventsFrom script k) m (omega arith))
+    pub budget-used : m .next < cells → budget ≤ t → Ends 3 t at m (imageCourse s script budget) b₀ b
+    budget-used h l = ended-as (rw (run-spent s script budget t k m (omega arith) l) at (u .written))
 
-    pub budget-used : m .next < cells → budget ≤ t → EndedAs (imageCourse s script budget) (record { reason = 3; turns = t; bytes = at; machine = m }) b₀ b
-    budget-used h l = ended-by (run-spent s script budget t k m (omega arith) l)
+    -- One turn: the events act, then the statement at the next cell, and its record is written.
+    module _ (room : 12 * budget ≤ length b₀) (h : m .next < cells) (l : t < budget) {r : Reached} (er : ReachedBy script t k m r)
+        {c : Cell} {d : Turned} {at′ : ℕ} {b′ : List ℕ} (ec : c ≡ cellAt s (r .machine .next))
+        (ed : d ≡ turn cells (effect same same (r .machine .variables) (r .machine .kept) (r .machine .hold) (statementOf c)) (r .machine))
+        (ea : at′ ≡ at + length (recordBytes t (d .wrote))) (eb : b′ ≡ sets b at (recordBytes t (d .wrote))) where
+      fits : at + length (recordBytes t (d .wrote)) ≤ length b
+      fits = omega (arith, record-most t (d .wrote), u .most, u .size)
 
-    -- One turn.
-    module _ (room : 12 * budget ≤ length b₀) (h : m .next < cells) (l : t < budget) {r : Reached} (er : ReachedBy script t k m r) where
-      pub next-inside : r .machine .next < cells
-      next-inside = rw (er .machine, reach-next t (eventsFrom script k) m) h
+      more : (left : Course) → rest s script budget t k m ≡ after (recordBytes t (d .wrote)) left → Written (imageCourse s script budget) b₀ b′ at′ left
+      more left e = rw (ea, eb) (written-more (recordBytes t (d .wrote)) (u .written) fits e)
 
-      module _ {c : Cell} {d : Turned} {at′ : ℕ} {b′ : List ℕ} (ec : c ≡ cellAt s (r .machine .next))
-          (ed : d ≡ turn cells (effect same same (r .machine .variables) (r .machine .kept) (r .machine .hold) (statementOf c)) (r .machine))
-          (ea : at′ ≡ at + length (recordBytes t (d .wrote))) (eb : b′ ≡ sets b at (recordBytes t (d .wrote))) where
-        fits : at + length (recordBytes t (d .wrote)) ≤ length b
-        fits = omega (arith, record-most t (d .wrote), u .most, u .size)
+      -- Turn 25: the run stops after the turn.
+      pub stopped : d .stops ≡ true → Ends 2 (t + 1) at′ (d .machine) (imageCourse s script budget) b₀ b′
+      stopped e = ended-as (more (ended 2 (t + 1) (d .machine)) (run-stopped s script budget t k m (omega arith) l er ec (rw en at ed) e))
 
-        more : (left : Course) → rest s script budget t k m ≡ after (recordBytes t (d .wrote)) left → Written (imageCourse s script budget) b₀ b′ at′ left
-        more left e = rw (ea, eb) (written-more (recordBytes t (d .wrote)) (u .written) fits e)
-
-        -- Turn 25: the run stops after the turn.
-        pub stopped : d .stops ≡ true → EndedAs (imageCourse s script budget) (record { reason = 2; turns = t + 1; bytes = at′; machine = d .machine }) b₀ b′
-        stopped e = ended-as (more (ended 2 (t + 1) (d .machine)) (run-stopped s script budget t k m (omega arith) l er ec (rw en at ed) e))
-
-        pub goes-on : d .stops ≡ false → Underway s script budget b₀ b′ (d .machine) (t + 1) (r .left) at′
-        goes-on e =
-            record {
-              turns = omega arith;
-              within = er .within;
-              inputs = rw ed (inputs-turn (r .machine) (er .inputs) same same cells (statementOf c));
-              most = omega (arith, record-most t (d .wrote), u .most);
-              size = rw eb (length-sets b at (recordBytes t (d .wrote)) ∙ u .size);
-              written = more (rest s script budget (t + 1) (r .left) (d .machine)) (run-goes s script budget t k m (omega arith) l er ec (rw en at ed) e);
-            }
+      pub goes-on : d .stops ≡ false → Underway s script budget b₀ b′ (d .machine) (t + 1) (r .left) at′
+      goes-on e =
+          record {
+            turns = omega arith;
+            within = er .within;
+            inputs = rw ed (inputs-turn (r .machine) (er .inputs) same same cells (statementOf c));
+            most = omega (arith, record-most t (d .wrote), u .most);
+            size = rw eb (length-sets b at (recordBytes t (d .wrote)) ∙ u .size);
+            written = more (rest s script budget (t + 1) (r .left) (d .machine)) (run-goes s script budget t k m (omega arith) l er ec (rw en at ed) e);
+          }

@@ -23,8 +23,10 @@ use Rattle.machine.specs.Events.{eventAt, eventCount, events, happens, arrivedB
 use Rattle.machine.specs.Run.{Reached, reach}
 use Rattle.machine.specs.Code.{Inputs}
 use Rattle.machine.proofs.Written.{start-more}
+use Rattle.running.specs.declared.Reached.{Reached as Here}
 use Rattle.running.specs.Code.{eventsFrom, ReachedBy}
 
+-- How long a list is that has f at each number, and what stands in it.
 module _ {A : Type 0} (f : ℕ → A) where
   length-listed : (n from : ℕ) → length (listed from n f) ≡ n
   unfolding listed
@@ -119,7 +121,7 @@ happens-next : (e : Event) (m : Machine) → happens e m .next ≡ m .next
 unfolding happens
 happens-next e m = chosen-next (eqb (e .kind) 1) (eqb (e .kind) 2) _ _ _ (m .next) refl (arrived-next (m .motion) m) refl
 
-pub reach-next : (t : ℕ) (es : List Event) (m : Machine) → reach t es m .machine .next ≡ m .next
+reach-next : (t : ℕ) (es : List Event) (m : Machine) → reach t es m .machine .next ≡ m .next
 unfolding reach
 reach-next t [] m = refl
 reach-next t (e ∷ es) m = by-turn (eqb (e .turn) t) (reach-next t es (happens e m) ∙ happens-next e m)
@@ -127,3 +129,6 @@ reach-next t (e ∷ es) m = by-turn (eqb (e .turn) t) (reach-next t es (happens 
     by-turn : (b : Bool) → reach t es (happens e m) .machine .next ≡ m .next → cond b (reach t es (happens e m)) (record { machine = m; left = e ∷ es }) .machine .next ≡ m .next
     by-turn true h = h
     by-turn false h = refl
+
+pub reached-next : {s : List ℕ} {t k : ℕ} {m : Machine} {r : Here} → ReachedBy s t k m r → r .machine .next ≡ m .next
+reached-next {s} {t} {k} {m} e = rw (e .machine) (reach-next t (eventsFrom s k) m)

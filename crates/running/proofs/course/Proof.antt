@@ -4,18 +4,10 @@ use mathlib.Core.Path.{_≡_, refl, sym, _∙_}
 use Prim.Native.Nat.{_-_, _≤_, _<_}
 use native.Mathlib.Omega.{arith}
 use borrow.Author.Needs.{needs}
-use Rattle.running.proofs.Scripts.{few-events}
-use Rattle.running.proofs.Courses.{Underway, underway, past-last, budget-used, next-inside, stopped, goes-on}
+use Rattle.running.proofs.Scripts.{few-events, reached-next}
+use Rattle.running.proofs.Courses.{Underway, underway, past-last, budget-used, stopped, goes-on}
 use Rattle.running.proofs.course.Statement.{statement}
 use Rattle.running.proofs.course.Tie as tie
-use Rattle.running.proofs.course.Reads as reads
-use Rattle.running.proofs.course.Lts as lts
-use Rattle.image.proofs.cell_at.Reads as cell-at-reads
-use Rattle.image.proofs.cell_count.Reads as cell-count-reads
-use Rattle.machine.proofs.Machine.turn.Reads as turn-reads
-use Rattle.machine.proofs.records.write_record.Reads as write-record-reads
-use Rattle.running.proofs.reach.Reads as reach-reads
-use Rattle.running.proofs.started.Reads as started-reads
 
 abbrev Inv-loop : tie.InvT-loop
 Inv-loop image events budget records₀ cells machine₀ turns₀ event₀ bytes₀ records machine turns event bytes =
@@ -44,10 +36,7 @@ cell-at-requires : tie.Need-cell-at-requires Inv-loop μ-loop
 cell-at-requires c κs = search needs
 
 turn-requires : tie.Need-turn-requires Inv-loop μ-loop
-turn-requires c κs =
-    let at = c .before .before .before .before .before .before in
-    let n = at .before .before .cell-count in
-    omega (arith, n .ok, next-inside (at .loop .inv) (n .ensures) (c .before .before .before .before .before .before .before .before .before .before .before .before .pre .2) (c .before .before .before .before .if1 .left) (c .before .before .before .if2 .left) (c .before .before .reach .ensures))
+turn-requires c κs = omega (arith, c .before .before .before .before .before .before .before .before .cell-count .ok, c .before .before .before .before .if1 .left, reached-next (c .before .before .reach .ensures))
 
 write-record-requires : tie.Need-write-record-requires Inv-loop μ-loop
 write-record-requires c κs =

@@ -14,11 +14,6 @@ use Rattle.running.specs.Code.{eventsFrom}
 use Rattle.running.proofs.Scripts.{reach-more, reach-waits, reach-none, reached-by}
 use Rattle.running.proofs.reach.Statement.{statement}
 use Rattle.running.proofs.reach.Tie as tie
-use Rattle.running.proofs.reach.Reads as reads
-use Rattle.running.proofs.reach.Lts as lts
-use Rattle.machine.proofs.Machine.happens.Reads as happens-reads
-use Rattle.machine.proofs.events.event_at.Reads as event-at-reads
-use Rattle.machine.proofs.events.event_count.Reads as event-count-reads
 
 abbrev Inv-loop : tie.InvT-loop
 Inv-loop events turn first count here₀ k₀ here k =

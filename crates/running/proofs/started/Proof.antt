@@ -11,12 +11,6 @@ use Rattle.machine.specs.Turn.{startMachine}
 use Rattle.running.proofs.Scripts.{started-more, started-all}
 use Rattle.running.proofs.started.Statement.{statement}
 use Rattle.running.proofs.started.Tie as tie
-use Rattle.running.proofs.started.Reads as reads
-use Rattle.running.proofs.started.Lts as lts
-use Rattle.image.proofs.start_value.Reads as start-value-reads
-use Rattle.image.proofs.variable_count.Reads as variable-count-reads
-use Rattle.machine.proofs.Machine.fresh.Reads as fresh-reads
-use Rattle.machine.proofs.Machine.with_start.Reads as with-start-reads
 
 abbrev Inv-loop : tie.InvT-loop
 Inv-loop image count machine₀ k₀ machine k = (k ≤ count) × (machine ≡ startMachine (take k (startValues image)))

@@ -1,0 +1,138 @@
+-- `run` meets its contract: each refusal behind the tests before it, then the course of the image.
+use mathlib.Core.Path.{_≡_, refl, sym, _∙_}
+use mathlib.Core.Bool.{false}
+use Prim.Native.Nat.{ℕ, _<_}
+use Rattle.image.specs.Check.{checked}
+use Rattle.machine.specs.Events.{badScript, badEvents, eventCount}
+use Rattle.running.proofs.Scripts.{few-events}
+use Rattle.bench.proofs.Refusals.{refused-image, refused-script, refused-event, no-bad-event, refused-budget, refused-room, ran-as}
+use borrow.Author.Needs.{needs}
+use Rattle.bench.proofs.run.Statement.{statement}
+use Rattle.bench.proofs.run.Tie as tie
+use Rattle.bench.proofs.run.Reads as reads
+use Rattle.bench.proofs.run.Lts as lts
+use Rattle.bench.proofs.answers.refused.Reads as refused-reads
+use Rattle.bench.proofs.answers.state_of.Reads as state-of-reads
+use Rattle.image.proofs.checked.Reads as checked-reads
+use Rattle.machine.proofs.events.event_count.Reads as event-count-reads
+use Rattle.machine.proofs.events.first_bad_event.Reads as first-bad-event-reads
+use Rattle.machine.proofs.events.is_bad_script.Reads as is-bad-script-reads
+use Rattle.running.proofs.course.Reads as course-reads
+
+-- the image is accepted; the script is whole; its events are good
+good-image : (c : tie.Else1) → checked (c .before .before .before .before .before .args .image .now) ≡ 0
+good-image c = sym (c .before .checked .ensures) ∙ c .if1 .left
+
+whole : (c : tie.Else2) → badScript (c .before .before .before .before .before .before .before .args .events .now) ≡ false
+whole c = sym (c .before .is-bad-script .ensures) ∙ c .if2 .left
+
+counted : (c : tie.After-event-count) {n : ℕ} → n < c .event-count .result → n < eventCount (c .before .before .before .before .before .before .before .before .before .args .events .now)
+counted c h = rw (c .event-count .ensures) at h
+
+fine : (c : tie.Else3) → badEvents (c .before .before .before .before .before .before .before .before .before .before .args .events .now) ≡ false
+fine c = no-bad-event _ (c .before .before .first-bad-event .ensures) (rw (c .before .event-count .ensures) at (c .if3 .left))
+
+checked-requires : tie.Need-checked-requires
+checked-requires c κs = search needs
+
+refused-requires : tie.Need-refused-requires
+refused-requires c κs = search needs
+
+returns : tie.Need-returns
+returns c = refused-image _ _ _ _ (c .before .before .checked .ensures) (c .before .if1 .taken) (c .refused .ensures)
+
+is-bad-script-requires : tie.Need-is-bad-script-requires
+is-bad-script-requires c κs = search needs
+
+refused-requires-2 : tie.Need-refused-requires-2
+refused-requires-2 c κs = search needs
+
+returns-2 : tie.Need-returns-2
+returns-2 c = refused-script _ _ _ _ (good-image (c .before .before .before)) (sym (c .before .before .is-bad-script .ensures) ∙ c .before .if2 .taken) (c .refused2 .ensures)
+
+first-bad-event-requires : tie.Need-first-bad-event-requires
+first-bad-event-requires c κs = few-events _ (whole c)
+
+event-count-requires : tie.Need-event-count-requires
+event-count-requires c κs = search needs
+
+refused-requires-3 : tie.Need-refused-requires-3
+refused-requires-3 c κs = search needs
+
+returns-3 : tie.Need-returns-3
+returns-3 c =
+    let e = c .before .before in
+    refused-event _ _ _ _ (good-image (e .before .before .before .before)) (whole (e .before .before)) (e .before .first-bad-event .ensures) (counted e (c .before .if3 .taken)) (c .refused3 .ensures)
+
+refused-requires-4 : tie.Need-refused-requires-4
+refused-requires-4 c κs = search needs
+
+returns-4 : tie.Need-returns-4
+returns-4 c =
+    let e = c .before .before in
+    let w = e .before .before .before in
+    refused-budget _ _ _ _ (good-image (w .before .before)) (whole w) (fine e) (c .before .if4 .taken) (c .refused4 .ensures)
+
+mul-if5 : tie.Need-mul-if5
+mul-if5 c = search needs
+
+refused-requires-5 : tie.Need-refused-requires-5
+refused-requires-5 c κs = search needs
+
+returns-5 : tie.Need-returns-5
+returns-5 c =
+    let l = c .before .before in
+    let e = l .before in
+    let w = e .before .before .before in
+    refused-room _ _ _ _ (good-image (w .before .before)) (whole w) (fine e) (l .if4 .left) (c .before .if5 .taken) (c .refused5 .ensures)
+
+cast-course : tie.Need-cast-course
+cast-course c = search needs
+
+course-requires : tie.Need-course-requires
+course-requires c κs =
+    let e = c .before .before .before in
+    (whole (e .before .before .before), fine e, c .before .if5 .left)
+
+state-of-requires : tie.Need-state-of-requires
+state-of-requires c κs = search needs
+
+cast-t17 : tie.Need-cast-t17
+cast-t17 c = search needs
+
+same-length : tie.Need-same-length
+same-length c = search needs
+
+returns-6 : tie.Need-returns-6
+returns-6 c =
+    let k = c .before .before .before .before .before in
+    let l = k .before .before in
+    let e = l .before .before in
+    let w = e .before .before .before in
+    ran-as _ _ _ _ (good-image (w .before .before)) (whole w) (fine e) (l .before .if4 .left) (l .if5 .left) (k .course .ensures) (c .before .before .state-of .ensures) refl
+
+pub run-spec : {M : Type 1} → statement M
+run-spec =
+    tie.close
+    (tie.spec
+    checked-requires
+    refused-requires
+    returns
+    is-bad-script-requires
+    refused-requires-2
+    returns-2
+    first-bad-event-requires
+    event-count-requires
+    refused-requires-3
+    returns-3
+    refused-requires-4
+    returns-4
+    mul-if5
+    refused-requires-5
+    returns-5
+    cast-course
+    course-requires
+    state-of-requires
+    cast-t17
+    same-length
+    returns-6)

@@ -1,0 +1,97 @@
+// The parts of an answer to a run: a state, and a refusal.
+ghost use mathlib.Core.Path.{_≡_};
+ghost use Rattle.machine.specs.Run.{Course};
+ghost use Rattle.bench.specs.Running.{stateOf, noState, refusedAs, motionNumber, motionValue};
+use machine::Machine;
+use machine::Motion;
+use machine::events;
+use crate::Ran;
+use crate::State;
+
+// The refusals of a run, behind those of its image.
+pub const BAD_SCRIPT: u8 = 32;
+pub const BAD_EVENT: u8 = 33;
+pub const BIG_BUDGET: u8 = 34;
+pub const SMALL_ROOM: u8 = 35;
+
+// The most turns that a run may take, and the bytes of a record.
+pub const MOST_TURNS: u64 = 4096;
+pub const RECORD: usize = 12;
+
+// A motion in an answer.
+const STILL: u8 = 0;
+const TO: u8 = 1;
+const SLEWING: u8 = 2;
+
+fn motion_number(motion: Motion) -> u8
+    ensures { λ r. ⌜ r ≡ motionNumber motion ⌝ }
+{
+    match motion {
+        Motion::Still => STILL,
+        Motion::To(_) => TO,
+        Motion::Slewing(_) => SLEWING,
+    }
+}
+
+fn motion_value(motion: Motion) -> i32
+    ensures { λ r. ⌜ r ≡ motionValue motion ⌝ }
+{
+    match motion {
+        Motion::Still => 0,
+        Motion::To(target) => target,
+        Motion::Slewing(velocity) => velocity,
+    }
+}
+
+// Every part of a machine's state.
+pub fn state_of(machine: Machine) -> State
+    ensures { λ r. ⌜ r ≡ stateOf machine ⌝ }
+{
+    let variables = machine.variables;
+    let places = machine.places;
+    let motion = machine.motion;
+    let number = motion_number(motion);
+    let value = motion_value(motion);
+    State {
+        variables,
+        next: machine.next,
+        places,
+        kept: machine.kept,
+        handler: machine.handler,
+        hold: machine.hold,
+        motion: number,
+        value,
+    }
+}
+
+fn no_state() -> State
+    ensures { λ r. ⌜ r ≡ noState ⌝ }
+{
+    let variables = [0i32; 64];
+    let places = [0u16; 8];
+    State {
+        variables,
+        next: 0,
+        places,
+        kept: 0,
+        handler: 0,
+        hold: 0,
+        motion: STILL,
+        value: 0,
+    }
+}
+
+// A refusal: its number, the index of a bad event, and all else 0.
+pub fn refused(number: u8, index: usize) -> Ran
+    ensures { λ r. ⌜ r ≡ refusedAs number index ⌝ }
+{
+    let state = no_state();
+    Ran {
+        number,
+        index,
+        reason: 0,
+        turns: 0,
+        records: 0,
+        state,
+    }
+}

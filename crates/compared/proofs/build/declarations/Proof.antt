@@ -1,0 +1,35 @@
+-- `declarations` is safe and ends: each turn leaves fewer names.
+-- Assumes nothing.
+use Prim.Native.Nat.{_-_}
+use borrow.Author.Needs.{needs}
+use Rattle.compared.proofs.build.declarations.Statement.{statement}
+use Rattle.compared.proofs.build.declarations.Tie as tie
+
+abbrev Inv-loop : tie.InvT-loop
+Inv-loop buffer₀ held word start end at₀ i₀ buffer at i = Unit {0}
+
+abbrev μ-loop : tie.MeasureT-loop
+μ-loop buffer₀ held word start end at₀ i₀ buffer at i = end - i
+
+loop-holds : tie.Need-loop-holds Inv-loop μ-loop
+loop-holds c = search needs
+
+declaration-requires : tie.Need-declaration-requires Inv-loop μ-loop
+declaration-requires c κs = search needs
+
+add-i : tie.Need-add-i Inv-loop μ-loop
+add-i c = search needs
+
+loop-less : tie.Need-loop-less Inv-loop μ-loop
+loop-less c = search needs
+
+loop-again : tie.Need-loop-again Inv-loop μ-loop
+loop-again c = search needs
+
+returns : tie.Need-returns Inv-loop μ-loop
+returns c = search needs
+
+pub declarations-spec : {M : Type 1} → statement M
+declarations-spec =
+    tie.close
+    (tie.spec Inv-loop μ-loop loop-holds declaration-requires add-i loop-less loop-again returns)
