@@ -243,6 +243,10 @@ lines-split s at (inl e) =
     (λ g. rw (take-all at s (le-of-lt g), drop-of-length-le s (le-of-lt g), append-nil))
     (le-or-lt at (length s))
 
+-- Past the end, the lines before a place are all lines.
+pub lines-done : (s : List ℕ) (at : ℕ) → length s ≤ at → lines (take at s) ≡ lines s
+lines-done s at h = ap lines (take-all at s h)
+
 -- A text starts with a line.
 pub starts-first : (s : List ℕ) → Starts s 0
 unfolding Starts

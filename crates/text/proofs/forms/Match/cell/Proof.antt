@@ -17,7 +17,9 @@ target-requires c κs = search needs
 
 returns : tie.Need-returns
 unfolding cellBy
-returns c = rw (c .before .before .left .ensures, c .before .right .ensures, c .target .ensures, key-spelt, key-spelt)
+returns c =
+    let m = c .before .before .before .args .self in
+    rw (c .before .before .left .ensures, c .before .right .ensures, c .target .ensures, key-spelt (m .written), key-spelt (m .name))
 
 pub cell-spec : {M : Type 1} → statement M
 cell-spec = tie.close (tie.spec left-requires right-requires target-requires returns)
