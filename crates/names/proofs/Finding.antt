@@ -3,20 +3,25 @@
 use mathlib.Core.Path.{_≡_, refl, sym, ap, _∙_}
 use mathlib.Core.Bool.{Bool, true, false, cond, _&&_, _||_, not, or-false}
 use mathlib.Core.List.{List, [], _∷_, map}
-use Prim.Native.Nat.{ℕ, zero, suc, _+_}
+use Prim.Native.Nat.{ℕ, suc, _+_, _-_, _≤_}
 use native.Mathlib.Omega.{arith}
 use native.Mathlib.Nat.{add-zero}
-use lib.Dec.{T, eqb}
+use lib.Dec.{eqb}
+use lib.ListN.{length, take, drop}
 use Rattle.numbers.specs.Tests.{eqList, any}
 use Rattle.program.specs.Names.{Name}
 use Rattle.program.specs.Code.{key, nameOf}
 use Rattle.program.proofs.Keys.{name-key, eq-name, user-word}
 use Rattle.text.specs.Forms.{Line, Blank, Label, Declared, Acts}
-use Rattle.text.specs.Faults.{heard, declares, declaresIt, makesCell, makesLabel, makesVariable, firstMakes, placeOf, rankOf}
-use Rattle.text.specs.Code.{saidBy}
-use Rattle.text.proofs.Heard.{Fine, heard-fine, cell-kind, label-kind, variable-kind, eqb-turn}
+use Rattle.text.specs.Lines.{lines}
+use Rattle.text.specs.Faults.{heard, said, declares, declaresIt, makesLabel, makesVariable, firstMakes, placeOf, rankOf}
+use Rattle.text.specs.Code.{saidBy, readingOf, LineAt}
+use Rattle.text.specs.declared.Span.{Span}
+use Rattle.text.specs.declared.forms.Reading.{Reading}
+use Rattle.text.proofs.Heard.{Fine, heard-fine, cell-kind, label-kind, variable-kind, eqb-turn, reading-kind, reading-name}
 use Rattle.names.specs.declared.Found.{Found}
-use Rattle.names.specs.Code.{found, declaring, plus, foundFrom}
+use Rattle.names.specs.Code.{found, declaring, plus, foundFrom, FoundAt}
+use Rattle.names.proofs.Lines.{said-next, said-end, few-said, few-places, few-ranks}
 
 -- What is known of each line.
 abbrev pub AllFine : List Line → Type 0
@@ -90,3 +95,46 @@ found-is k [] c v f = record { label = refl; variable = refl; none = refl; place
 found-is k (x ∷ xs) c v f =
     found-step k c v x xs (declaresIt (nameOf k) x) refl (sym (declares-by k x (f .0)))
     (found-is k xs (plus (eqb (saidBy x .kind) 3) c) (plus (eqb (saidBy x .kind) 2) v) (f .1))
+
+-- What seeking has found at a place of a text, by the line there.
+module _ (s : List ℕ) (at k c v : ℕ) (r : Span) (l : LineAt s at r) (q : Reading) (e : q ≡ readingOf (take (r .end - at) (drop at s))) where
+  abbrev line : Line
+  line = heard (take (r .end - at) (drop at s))
+
+  kinds : saidBy line .kind ≡ q .kind
+  kinds = sym (ap (λ (z : Reading). z .kind) e ∙ reading-kind (take (r .end - at) (drop at s)))
+
+  found-test : (b : Bool) → (declaring (q .kind) && eqb (q .name) k) ≡ b → (declaring (saidBy line .kind) && eqb (saidBy line .name) k) ≡ b
+  found-test b t =
+      let names : saidBy line .name ≡ q .name = sym (ap (λ (z : Reading). z .name) e ∙ reading-name (take (r .end - at) (drop at s))) in
+      rw (kinds, names) t
+
+  pub found-here : (declaring (q .kind) && eqb (q .name) k) ≡ true → found (q .kind) c v ≡ foundFrom k c v (said (drop at s))
+  unfolding foundFrom
+  found-here t = rw (said-next s at r l, found-test true t, kinds)
+
+  pub found-more : (declaring (q .kind) && eqb (q .name) k) ≡ false
+      → foundFrom k (plus (eqb (q .kind) 3) c) (plus (eqb (q .kind) 2) v) (said (drop (r .next) s)) ≡ foundFrom k c v (said (drop at s))
+  unfolding foundFrom
+  found-more t = rw (said-next s at r l, found-test false t, kinds)
+
+pub found-none : (s : List ℕ) (at k c v : ℕ) → length s ≤ at → found 0 c v ≡ foundFrom k c v (said (drop at s))
+unfolding foundFrom
+found-none s at k c v h = rw (said-end s at h)
+
+-- What seeking in a whole text finds.
+pub found-at : (s : List ℕ) (k : ℕ) (f : Found) → f ≡ foundFrom k 0 0 (said s) → FoundAt s k f
+unfolding said
+found-at s k f e =
+    let i = found-is k (said s) 0 0 (all-fine (lines s)) in
+    let n = few-said s in
+    rw e
+    (record {
+      label = i .label;
+      variable = i .variable;
+      none = i .none;
+      place = omega (arith, i .place);
+      rank = omega (arith, i .rank);
+      few-cells = omega (arith, i .place, few-places (nameOf k) (said s));
+      few-variables = omega (arith, i .rank, few-ranks (nameOf k) (said s));
+    })

@@ -1,2 +1,4 @@
-pub mod Finding
 pub mod Lines
+pub mod Finding
+pub mod Asking
+pub mod Surveying

@@ -1,1 +1,110 @@
+-- What a walk over the lines of a text passes, line by line: what is said, counted and faulty.
+-- Assumes nothing.
+use mathlib.Core.Path.{_≡_, refl, ap, _∙_}
+use mathlib.Core.Bool.{Bool, true, false, cond, _&&_}
+use mathlib.Core.List.{List, [], _∷_, _++_, map, map-append}
+use Prim.Native.Nat.{ℕ, suc, _+_, _-_, _≤_}
+use native.Mathlib.Omega.{arith}
+use lib.Dec.{eqb}
+use lib.ListN.{length, take, drop, getD, length-map}
+use lib.Seq.{take-all}
+use Rattle.program.specs.Names.{Name}
+use Rattle.text.specs.Lines as Paper
+use Rattle.text.specs.Lines.{lines}
+use Rattle.text.specs.Forms.{Line}
+use Rattle.text.specs.Faults.{heard, said, declaresIt, makesCell, makesLabel, makesVariable, count, placeOf, rankOf}
+use Rattle.text.specs.Code.{saidBy, Starts, LineAt}
+use Rattle.text.specs.declared.Span.{Span}
+use Rattle.text.proofs.Lines.{lines-next, lines-end}
+use Rattle.text.proofs.Heard.{cell-kind, label-kind, variable-kind}
+use Rattle.names.specs.Code.{plus, counted, countsOf}
 
+-- What is said from a place on: by the line there and those behind it; nothing at the end.
+pub said-next : (s : List ℕ) (at : ℕ) (r : Span) → LineAt s at r → said (drop at s) ≡ heard (take (r .end - at) (drop at s)) ∷ said (drop (r .next) s)
+unfolding said
+said-next s at r l = ap (map heard) (l .cut)
+
+pub said-end : (s : List ℕ) (at : ℕ) → length s ≤ at → said (drop at s) ≡ []
+unfolding said
+said-end s at h = ap (map heard) (lines-end s at h)
+
+-- What is said before the next line; before the first; before the end.
+pub said-before : (s : List ℕ) (at : ℕ) (r : Span) → Starts s at → LineAt s at r
+    → said (take (r .next) s) ≡ said (take at s) ++ (heard (take (r .end - at) (drop at s)) ∷ [])
+unfolding said
+said-before s at r st l = ap (map heard) (lines-next s at r st l) ∙ map-append heard (lines (take at s)) (take (r .end - at) (drop at s) ∷ [])
+
+pub said-none : said [] ≡ []
+unfolding said lines
+said-none = refl
+
+pub said-all : (s : List ℕ) (at : ℕ) → length s ≤ at → said (take at s) ≡ said s
+said-all s at h = ap said (take-all at s h)
+
+-- A text has no more lines than bytes.
+few-before : (b n : ℕ) (ls : List (List ℕ)) → length ls ≤ n → length (Paper.before b ls) ≤ suc n
+unfolding Paper.before
+few-before b n [] h = omega arith
+few-before b n (l ∷ ls) h = omega arith
+
+few-lines : (s : List ℕ) → length (lines s) ≤ length s
+unfolding lines
+few-lines [] = omega arith
+few-lines (b ∷ bs) = pick (eqb b 10) (eqb b 13 && eqb (getD bs 0 0) 10) (few-lines bs)
+  where
+    pick : (x y : Bool) → length (lines bs) ≤ length bs → length (cond x ([] ∷ lines bs) (cond y (lines bs) (Paper.before b (lines bs)))) ≤ suc (length bs)
+    pick true y h = omega arith
+    pick false true h = omega arith
+    pick false false h = few-before b (length bs) (lines bs) h
+
+pub few-said : (s : List ℕ) → length (said s) ≤ length s
+unfolding said
+few-said s = omega (arith, length-map (lines s) heard, few-lines s)
+
+-- No name stands behind more cells or variables than there are lines.
+step-few : (x b : Bool) (n m : ℕ) → n ≤ m → cond x 0 (cond b (suc n) n) ≤ suc m
+step-few true b n m h = omega arith
+step-few false true n m h = omega arith
+step-few false false n m h = omega arith
+
+pub few-places : (w : Name) (xs : List Line) → placeOf xs w ≤ length xs
+unfolding placeOf
+few-places w [] = omega arith
+few-places w (x ∷ xs) = step-few (declaresIt w x) (makesCell x) (placeOf xs w) (length xs) (few-places w xs)
+
+pub few-ranks : (w : Name) (xs : List Line) → rankOf xs w ≤ length xs
+unfolding rankOf
+few-ranks w [] = omega arith
+few-ranks w (x ∷ xs) = step-few (declaresIt w x) (makesVariable x) (rankOf xs w) (length xs) (few-ranks w xs)
+
+-- Counting one line more at the end.
+pub count-more : (p : Line → Bool) (xs : List Line) (x : Line) → count p (xs ++ (x ∷ [])) ≡ plus (p x) (count p xs)
+unfolding count plus
+count-more p [] x = refl
+count-more p (y ∷ ys) x = rw (count-more p ys x) (swap (p y) (p x) (count p ys))
+  where
+    swap : (a b : Bool) (n : ℕ) → cond a (suc (cond b (suc n) n)) (cond b (suc n) n) ≡ cond b (suc (cond a (suc n) n)) (cond a (suc n) n)
+    swap true true n = refl
+    swap true false n = refl
+    swap false true n = refl
+    swap false false n = refl
+
+pub counted-more : (xs : List Line) (x : Line) → counted (countsOf xs) (saidBy x .kind) ≡ countsOf (xs ++ (x ∷ []))
+unfolding counted countsOf
+counted-more xs x =
+    rw (count-more makesCell xs x, count-more makesLabel xs x, count-more makesVariable xs x, cell-kind x, label-kind x, variable-kind x)
+
+-- No test counts more lines than there are.
+pub count-most : (p : Line → Bool) (xs : List Line) → count p xs ≤ length xs
+unfolding count
+count-most p [] = omega arith
+count-most p (x ∷ xs) = go (p x) (count-most p xs)
+  where
+    go : (b : Bool) → count p xs ≤ length xs → cond b (suc (count p xs)) (count p xs) ≤ suc (length xs)
+    go true h = omega arith
+    go false h = omega arith
+
+pub plus-most : (b : Bool) (n : ℕ) → plus b n ≤ n + 1
+unfolding plus
+plus-most true n = omega arith
+plus-most false n = omega arith

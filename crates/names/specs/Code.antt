@@ -1,13 +1,13 @@
 -- What the code finds by walking the lines of a text, with names as keys. No demand reaches this; proofs/ ties it to the paper's definitions.
 -- Assumes nothing.
 use mathlib.Core.Path.{_≡_}
-use mathlib.Core.Bool.{Bool, true, false, cond, _&&_, _||_, not}
+use mathlib.Core.Bool.{Bool, cond, _&&_, _||_, not}
 use mathlib.Core.List.{List, [], _∷_}
-use Prim.Native.Nat.{ℕ, suc, _+_, _≤_, _<_}
+use Prim.Native.Nat.{ℕ, suc, _≤_, _<_}
 use lib.Dec.{eqb, leb}
 use lib.ListN.{length}
 use Rattle.numbers.specs.Tests.{any, lowest}
-use Rattle.program.specs.Names.{Name, paperVariable}
+use Rattle.program.specs.Names.{paperVariable}
 use Rattle.program.specs.Variables.{readOnly, mostCells, mostLabels, mostVariables}
 use Rattle.program.specs.Code.{nameOf}
 use Rattle.program.specs.declared.Cell.{Cell}
@@ -95,6 +95,12 @@ countsOf xs = record { cells = count makesCell xs; labels = count makesLabel xs;
 unfoldable pub counted : Counts → ℕ → Counts
 counted n kind =
     record { cells = plus (eqb kind 3) (n .cells); labels = plus (eqb kind 1) (n .labels); variables = plus (eqb kind 2) (n .variables) }
+
+-- Each count is below this number.
+pub record Below (most : ℕ) (n : Counts) : Type 0 where
+  pub cells : n .cells < most
+  pub labels : n .labels < most
+  pub variables : n .variables < most
 
 -- The lowest fault of a line that was read so.
 unfoldable pub faultBy : List Line → List Line → Counts → Reading → ℕ

@@ -1,0 +1,107 @@
+-- `find` meets its contract. The loop's invariant: seeking from here on, behind these counts, finds what seeking in the whole text does.
+-- Assumes nothing.
+use Prim.Native.Nat.{ℕ, _≤_, _+_, _-_}
+use borrow.Author.Needs.{needs}
+use denote.Ref.{now}
+use lib.ListN.{length, drop}
+use lib.Dec.{eqb}
+use mathlib.Core.Bool.{Bool, _&&_}
+use mathlib.Core.Path.{_≡_, refl, sym, ap, ap₂, _∙_}
+use native.Mathlib.Omega.{arith}
+use Rattle.text.specs.Faults.{said}
+use Rattle.names.specs.Code.{foundFrom}
+use Rattle.names.proofs.Lines.{plus-most}
+use Rattle.names.proofs.Finding.{found-here, found-more, found-none, found-at}
+use Rattle.names.proofs.find.Statement.{statement}
+use Rattle.names.proofs.find.Tie as tie
+
+abbrev Inv-loop : tie.InvT-loop
+Inv-loop s key cells₀ variables₀ at₀ cells variables at =
+    (at ≤ length s + 1) × (cells ≤ at) × (variables ≤ at) × (foundFrom key cells variables (said (drop at s)) ≡ foundFrom key 0 0 (said s))
+
+abbrev μ-loop : tie.MeasureT-loop
+μ-loop s key cells₀ variables₀ at₀ cells variables at = length s + 1 - at
+
+loop-holds : tie.Need-loop-holds Inv-loop μ-loop
+loop-holds c = (omega arith, omega arith, omega arith, refl)
+
+line-at-requires : tie.Need-line-at-requires Inv-loop μ-loop
+line-at-requires c κs = omega arith
+
+sub-read-line : tie.Need-sub-read-line Inv-loop μ-loop
+sub-read-line c = search needs
+
+part-read-line-start : tie.Need-part-read-line-start Inv-loop μ-loop
+part-read-line-start c = search needs
+
+part-read-line-end : tie.Need-part-read-line-end Inv-loop μ-loop
+part-read-line-end c = search needs
+
+read-line-requires : tie.Need-read-line-requires Inv-loop μ-loop
+read-line-requires c κs = search needs
+
+is-declaring-requires : tie.Need-is-declaring-requires Inv-loop μ-loop
+is-declaring-requires c κs = search needs
+
+returns : tie.Need-returns Inv-loop μ-loop
+returns c =
+    let d = c .before .before in
+    let l = d .before .before .before in
+    let h = l .before .before in
+    let a = h .before .before .args in
+    found-at (now (a .s)) (a .key) _
+    (found-here (now (a .s)) (h .loop .at) (a .key) (h .loop .cells) (h .loop .variables) (l .line-at .result) (l .line-at .ensures) (d .before .read-line .result) (d .before .read-line .ensures)
+    (ap (λ (b : Bool). b && eqb (d .before .read-line .result .name) (a .key)) (sym (d .is-declaring .ensures)) ∙ c .if1 .taken)
+    ∙ h .loop .inv .3)
+
+more-if-requires : tie.Need-more-if-requires Inv-loop μ-loop
+more-if-requires c κs = omega arith
+
+more-if-requires-2 : tie.Need-more-if-requires-2 Inv-loop μ-loop
+more-if-requires-2 c κs = omega arith
+
+loop-less : tie.Need-loop-less Inv-loop μ-loop
+loop-less c = omega arith
+
+loop-again : tie.Need-loop-again Inv-loop μ-loop
+loop-again c =
+    let m = c .before in
+    let d = m .before .before .before in
+    let l = d .before .before .before in
+    let h = l .before .before in
+    let a = h .before .before .args in
+    let q = d .before .read-line .result in (
+      l .line-at .ensures .fits,
+      omega (arith, m .more-if .ensures, plus-most (eqb (q .kind) 3) (h .loop .cells)),
+      omega (arith, c .more-if2 .ensures, plus-most (eqb (q .kind) 2) (h .loop .variables)),
+      ap₂ (λ (x y : ℕ). foundFrom (a .key) x y (said (drop (l .line-at .result .next) (now (a .s))))) (m .more-if .ensures) (c .more-if2 .ensures)
+          ∙ found-more (now (a .s)) (h .loop .at) (a .key) (h .loop .cells) (h .loop .variables) (l .line-at .result) (l .line-at .ensures) q (d .before .read-line .ensures)
+          (ap (λ (b : Bool). b && eqb (q .name) (a .key)) (sym (d .is-declaring .ensures)) ∙ m .before .if1 .left)
+          ∙ h .loop .inv .3,
+    )
+
+returns-2 : tie.Need-returns-2 Inv-loop μ-loop
+returns-2 c =
+    let h = c .before in
+    let a = h .before .before .args in
+    found-at (now (a .s)) (a .key) _ (found-none (now (a .s)) (h .loop .at) (a .key) (h .loop .cells) (h .loop .variables) (c .loop-test .left) ∙ h .loop .inv .3)
+
+pub find-spec : {M : Type 1} → statement M
+find-spec =
+    tie.close
+    (tie.spec
+    Inv-loop
+    μ-loop
+    loop-holds
+    line-at-requires
+    sub-read-line
+    part-read-line-start
+    part-read-line-end
+    read-line-requires
+    is-declaring-requires
+    returns
+    more-if-requires
+    more-if-requires-2
+    loop-less
+    loop-again
+    returns-2)

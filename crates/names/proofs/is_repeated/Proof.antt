@@ -1,0 +1,29 @@
+-- `is_repeated` meets its contract.
+-- Assumes nothing.
+use denote.Ref.{now}
+use mathlib.Core.Path.{sym, _∙_}
+use borrow.Author.Tests.{not-true, not-false}
+use Rattle.names.specs.Code.{repeatedKey}
+use Rattle.names.proofs.Asking.{name-sought}
+use borrow.Author.Needs.{needs}
+use Rattle.names.proofs.is_repeated.Statement.{statement}
+use Rattle.names.proofs.is_repeated.Tie as tie
+
+is-declaring-requires : tie.Need-is-declaring-requires
+is-declaring-requires c κs = search needs
+
+returns : tie.Need-returns
+unfolding repeatedKey
+returns c = rw (sym (c .before .is-declaring .ensures) ∙ not-true _ (c .if1 .taken))
+
+find-requires : tie.Need-find-requires
+find-requires c κs = search needs
+
+returns-2 : tie.Need-returns-2
+returns-2 c =
+    let d = c .before .before .before in
+    let s = d .before .before in
+    name-sought (now (s .args .before)) (s .args .kind) (s .args .name) (c .before .find .result) (sym (d .is-declaring .ensures) ∙ not-false _ (c .before .before .if1 .left)) (c .before .find .ensures)
+
+pub is-repeated-spec : {M : Type 1} → statement M
+is-repeated-spec = tie.close (tie.spec is-declaring-requires returns find-requires returns-2)

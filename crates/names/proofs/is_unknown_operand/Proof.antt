@@ -1,0 +1,49 @@
+-- `is_unknown_operand` meets its contract.
+-- Assumes nothing.
+use native.Mathlib.Omega.{arith}
+use Rattle.text.specs.Faults.{unknownValue}
+use Rattle.names.specs.Code.{unknownOperand}
+use Rattle.names.proofs.Asking.{keyed-variable}
+use borrow.Author.Needs.{needs}
+use Rattle.names.proofs.is_unknown_operand.Statement.{statement}
+use Rattle.names.proofs.is_unknown_operand.Tie as tie
+
+enum-told : tie.Need-enum-told
+enum-told c = search needs
+
+enum-told-2 : tie.Need-enum-told-2
+enum-told-2 c = search needs
+
+enum-known-operand : tie.Need-enum-known-operand
+enum-known-operand c = search needs
+
+cast-is-unknown-variable : tie.Need-cast-is-unknown-variable
+cast-is-unknown-variable c = omega (arith, keyed-variable _ _ (c .before .operand .given .1) (c .before .before .before .before .pre))
+
+is-unknown-variable-requires : tie.Need-is-unknown-variable-requires
+is-unknown-variable-requires c κs = search needs
+
+returns : tie.Need-returns
+unfolding unknownOperand
+returns c = rw (c .enum-told .given .1)
+
+returns-2 : tie.Need-returns-2
+unfolding unknownOperand unknownValue
+returns-2 c = rw (c .enum-told2 .given .1)
+
+returns-3 : tie.Need-returns-3
+unfolding unknownOperand unknownValue
+returns-3 c = rw (c .before .before .operand .given .1) (c .is-unknown-variable .ensures)
+
+pub is-unknown-operand-spec : {M : Type 1} → statement M
+is-unknown-operand-spec =
+    tie.close
+    (tie.spec
+    enum-told
+    enum-told-2
+    enum-known-operand
+    cast-is-unknown-variable
+    is-unknown-variable-requires
+    returns
+    returns-2
+    returns-3)

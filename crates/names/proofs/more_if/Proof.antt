@@ -1,0 +1,21 @@
+-- `more_if` meets its contract.
+-- Assumes nothing.
+use Rattle.names.specs.Code.{plus}
+use native.Mathlib.Numerals.{add-one}
+use borrow.Author.Needs.{needs}
+use Rattle.names.proofs.more_if.Statement.{statement}
+use Rattle.names.proofs.more_if.Tie as tie
+
+add-result : tie.Need-add-result
+add-result c = search needs
+
+returns : tie.Need-returns
+unfolding plus
+returns c = rw (c .if1 .taken) (add-one _)
+
+returns-2 : tie.Need-returns-2
+unfolding plus
+returns-2 c = rw (c .if1 .left)
+
+pub more-if-spec : {M : Type 1} → statement M
+more-if-spec = tie.close (tie.spec add-result returns returns-2)

@@ -1,0 +1,19 @@
+-- `writes_read_only` meets its contract.
+-- Assumes nothing.
+use Rattle.names.specs.Code.{readOnlyKey}
+use borrow.Author.Needs.{needs}
+use Rattle.names.proofs.writes_read_only.Statement.{statement}
+use Rattle.names.proofs.writes_read_only.Tie as tie
+
+variable-number-requires : tie.Need-variable-number-requires
+variable-number-requires c κs = search needs
+
+is-read-only-requires : tie.Need-is-read-only-requires
+is-read-only-requires c κs = search needs
+
+returns : tie.Need-returns
+unfolding readOnlyKey
+returns c = rw (c .is-read-only .ensures, c .before .variable-number .ensures)
+
+pub writes-read-only-spec : {M : Type 1} → statement M
+writes-read-only-spec = tie.close (tie.spec variable-number-requires is-read-only-requires returns)
