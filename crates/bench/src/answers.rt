@@ -1,12 +1,19 @@
-// The parts of an answer to a run: a state, and a refusal.
+// The parts of the answers: a state, and the refusals.
 ghost use mathlib.Core.Path.{_≡_};
-ghost use Rattle.machine.specs.Run.{Course};
 ghost use Rattle.bench.specs.Running.{stateOf, noState, refusedAs, motionNumber, motionValue};
+ghost use Rattle.bench.specs.Translating.{answered};
 use machine::Machine;
 use machine::Motion;
-use machine::events;
 use crate::Ran;
 use crate::State;
+use crate::Translated;
+
+// The refusals of a text that are not those of a line.
+pub const LONG_TEXT: u8 = 1;
+pub const SHORT_BUFFER: u8 = 10;
+
+// The most bytes that a text may have.
+pub const LONGEST_TEXT: usize = 16384;
 
 // The refusals of a run, behind those of its image.
 pub const BAD_SCRIPT: u8 = 32;
@@ -17,6 +24,17 @@ pub const SMALL_ROOM: u8 = 35;
 // The most turns that a run may take, and the bytes of a record.
 pub const MOST_TURNS: u64 = 4096;
 pub const RECORD: usize = 12;
+
+// A text that is refused: the number, the line, and no image.
+pub fn not_translated(number: u8, line: usize) -> Translated
+    ensures { λ r. ⌜ r ≡ answered number line 0 ⌝ }
+{
+    Translated {
+        number,
+        line,
+        length: 0,
+    }
+}
 
 // A motion in an answer.
 const STILL: u8 = 0;

@@ -1,6 +1,6 @@
 // The bench: translate a text, check an image, run an image. Its answers are plain data.
 mod answers;
-ghost use Rattle.bench.specs.Calls.{Checks, Runs};
+ghost use Rattle.bench.specs.Calls.{Translates, Checks, Runs};
 
 // Number 0, and the image's length; or the refusal with its line.
 pub struct Translated {
@@ -34,6 +34,31 @@ pub struct Ran {
     pub turns: u64,
     pub records: usize,
     pub state: State,
+}
+
+// Translates a program text into an image, which goes to the front of the buffer.
+pub fn translate(text: &[u8], image: &mut [u8]) -> Translated
+    ensures { λ r. ⌜ Translates (now (text .entry)) (now (image .entry)) r (now (image .exit)) ⌝ }
+{
+    if answers::LONGEST_TEXT < text.len() {
+        return answers::not_translated(answers::LONG_TEXT, 0);
+    }
+    let survey = names::survey(text);
+    let fault = survey.fault;
+    if fault.number != 0 {
+        return answers::not_translated(fault.number, fault.line);
+    }
+    let counts = survey.counts;
+    let length = image::image_length(counts.cells as u16, counts.labels as u16, counts.variables as u16);
+    if image.len() < length {
+        return answers::not_translated(answers::SHORT_BUFFER, 0);
+    }
+    translation::write_image(text, image, counts);
+    Translated {
+        number: 0,
+        line: 0,
+        length,
+    }
 }
 
 // Checks an image: any bytes, of any length.
