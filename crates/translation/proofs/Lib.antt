@@ -1,3 +1,5 @@
 pub mod Emission
 pub mod Accepted
 pub mod Parts
+pub mod Writing
+pub mod Whole

@@ -1,9 +1,20 @@
 -- What the code's loops do, step by step. No demand reaches this; proofs/ ties it to the paper's definitions.
 -- Assumes nothing.
-use mathlib.Core.List.{List, [], _∷_}
-use Prim.Native.Nat.{ℕ, _+_}
+use mathlib.Core.Bool.{cond}
+use mathlib.Core.List.{List, [], _∷_, _++_}
+use Prim.Native.Nat.{ℕ, _+_, _≤_}
+use lib.Dec.{eqb}
 use lib.ListN.{length}
 use lib.Seq.{sets}
+use Rattle.numbers.specs.Bytes.{bytes}
+use Rattle.numbers.specs.Bits.{digits32}
+use Rattle.program.specs.Code.{nameOf}
+use Rattle.text.specs.Forms.{Line}
+use Rattle.text.specs.Faults.{placeOf, numberOf}
+use Rattle.text.specs.Code.{resolved}
+use Rattle.text.specs.declared.forms.Reading.{Reading}
+use Rattle.image.specs.Layout.{cellBytes}
+use Rattle.translation.specs.declared.Places.{Places}
 
 -- Each x puts f x, g x and h x into the buffer, behind what the ones before it put there.
 module _ {A : Type 0} (f g h : A → List ℕ) where
@@ -11,3 +22,31 @@ module _ {A : Type 0} (f g h : A → List ℕ) where
   emitFrom i j k [] b = b
   emitFrom i j k (x ∷ xs) b =
       emitFrom (i + length (f x)) (j + length (g x)) (k + length (h x)) xs (sets (sets (sets b i (f x)) j (g x)) k (h x))
+
+-- What a line that was read so puts into the image: a cell, a label record or a variable record.
+unfoldable pub cellOut : List Line → Reading → List ℕ
+cellOut text r = cond (eqb (r .kind) 3) (cellBytes (resolved (placeOf text) (numberOf text) (r .cell))) []
+
+unfoldable pub labelOut : List Line → Reading → List ℕ
+labelOut text r = cond (eqb (r .kind) 1) (bytes 2 (r .name) ++ bytes 2 (placeOf text (nameOf (r .name)))) []
+
+unfoldable pub variableOut : Reading → List ℕ
+variableOut r = cond (eqb (r .kind) 2) (bytes 2 (r .name) ++ (bytes 2 0 ++ bytes 4 (digits32 (r .start)))) []
+
+-- The buffer with what a line puts at these places, and the places behind it.
+unfoldable pub emittedBy : List Line → Reading → Places → List ℕ → List ℕ
+emittedBy text r p b = sets (sets (sets b (p .cell) (cellOut text r)) (p .label) (labelOut text r)) (p .variable) (variableOut r)
+
+unfoldable pub placesBy : List Line → Reading → Places → Places
+placesBy text r p =
+    record {
+      cell = p .cell + length (cellOut text r);
+      label = p .label + length (labelOut text r);
+      variable = p .variable + length (variableOut r);
+    }
+
+-- Each place is at most this.
+pub record Within (most : ℕ) (p : Places) : Type 0 where
+  pub cell : p .cell ≤ most
+  pub label : p .label ≤ most
+  pub variable : p .variable ≤ most

@@ -1,0 +1,57 @@
+-- `number_of` meets its contract.
+-- Assumes nothing.
+use denote.Ref.{now}
+use native.Mathlib.Omega.{arith}
+use Rattle.program.specs.Code.{nameOf}
+use Rattle.program.proofs.Places.{paper-most}
+use Rattle.text.specs.Faults.{said}
+use Rattle.translation.proofs.Writing.{number-paper, number-user}
+use borrow.Author.Needs.{needs}
+use Rattle.translation.proofs.number_of.Statement.{statement}
+use Rattle.translation.proofs.number_of.Tie as tie
+
+variable-number-requires : tie.Need-variable-number-requires
+variable-number-requires c κs = search needs
+
+cast-result : tie.Need-cast-result
+cast-result c =
+    let v = c .before in
+    omega (arith, v .variable-number .ensures, paper-most (nameOf (v .before .before .args .key)))
+
+returns : tie.Need-returns
+returns c =
+    let v = c .before in
+    let s = v .before .before in
+    number-paper (said (now (s .args .s))) (s .args .key) (v .variable-number .result) (v .variable-number .ensures) (c .if1 .taken)
+
+find-requires : tie.Need-find-requires
+find-requires c κs = search needs
+
+cast-result-2 : tie.Need-cast-result-2
+cast-result-2 c = search needs
+
+cast-result-3 : tie.Need-cast-result-3
+cast-result-3 c = search needs
+
+add-result : tie.Need-add-result
+add-result c = search needs
+
+returns-2 : tie.Need-returns-2
+returns-2 c =
+    let f = c .before in
+    let v = f .before .before in
+    let s = v .before .before in
+    number-user (said (now (s .args .s))) (s .args .key) (v .variable-number .result) (v .variable-number .ensures) (f .find .result .variables) (f .before .if1 .left) (f .find .ensures .rank)
+
+pub number-of-spec : {M : Type 1} → statement M
+number-of-spec =
+    tie.close
+    (tie.spec
+    variable-number-requires
+    cast-result
+    returns
+    find-requires
+    cast-result-2
+    cast-result-3
+    add-result
+    returns-2)
