@@ -8,12 +8,28 @@ use native.Mathlib.Omega.{arith}
 use borrow.Author.Tests.{lt-ltb, le-ltb, ne-eqb, eq-eqb}
 use lib.Dec.{eqb, ltb}
 use lib.ListN.{length, drop}
-use Rattle.text.specs.Faults.{overlong, firstFault}
+use Rattle.text.specs.Faults.{overlong, said, firstFault}
 use Rattle.text.specs.declared.Fault.{Fault}
+use Rattle.names.specs.declared.Counts.{Counts}
+use Rattle.names.specs.Code.{countsOf}
+use Rattle.image.specs.Layout.{imageLength}
 use Rattle.translation.specs.Images.{image}
+use Rattle.translation.proofs.Accepted.{few-cells, few-labels, few-variables}
+use Rattle.translation.proofs.Parts.{image-length}
+use Rattle.translation.proofs.Writing.{all-two}
 use Rattle.bench.specs.declared.Translated.{Translated}
 use Rattle.bench.specs.Translating.{answered, tooShort, translated, translatedInto}
 use Rattle.bench.specs.Calls.{Translates}
+
+-- What a survey counts in a text without a fault keeps the limits, and gives the image's length.
+module _ (text : List ℕ) (clean : firstFault text .number ≡ 0) {n : Counts} (e : n ≡ countsOf (said text)) where
+  pub few : (n .cells ≤ 256) × (n .labels ≤ 160) × (n .variables ≤ 32)
+  unfolding countsOf
+  few = rw e (few-cells text clean, few-labels text clean, few-variables text clean)
+
+  pub measured : {size : ℕ} → size ≡ imageLength (n .cells) (n .labels) (n .variables) → size ≡ length (image text)
+  unfolding countsOf image
+  measured h = h ∙ rw e (sym (image-length (said text) (all-two text)))
 
 module _ (text b : List ℕ) where
   -- the answer of a refusal, and the buffer as it was

@@ -2,14 +2,15 @@
 ghost use mathlib.Core.Path.{_≡_};
 ghost use Rattle.bench.specs.Running.{stateOf, noState, refusedAs, motionNumber, motionValue};
 ghost use Rattle.bench.specs.Translating.{answered};
-use machine::Machine;
-use machine::Motion;
 use crate::Ran;
 use crate::State;
 use crate::Translated;
+use machine::Machine;
+use machine::Motion;
 
 // The refusals of a text that are not those of a line.
 pub const LONG_TEXT: u8 = 1;
+
 pub const SHORT_BUFFER: u8 = 10;
 
 // The most bytes that a text may have.
@@ -17,12 +18,16 @@ pub const LONGEST_TEXT: usize = 16384;
 
 // The refusals of a run, behind those of its image.
 pub const BAD_SCRIPT: u8 = 32;
+
 pub const BAD_EVENT: u8 = 33;
+
 pub const BIG_BUDGET: u8 = 34;
+
 pub const SMALL_ROOM: u8 = 35;
 
 // The most turns that a run may take, and the bytes of a record.
 pub const MOST_TURNS: u64 = 4096;
+
 pub const RECORD: usize = 12;
 
 // A text that is refused: the number, the line, and no image.
@@ -38,7 +43,9 @@ pub fn not_translated(number: u8, line: usize) -> Translated
 
 // A motion in an answer.
 const STILL: u8 = 0;
+
 const TO: u8 = 1;
+
 const SLEWING: u8 = 2;
 
 fn motion_number(motion: Motion) -> u8

@@ -1,5 +1,6 @@
 // The bench: translate a text, check an image, run an image. Its answers are plain data.
 mod answers;
+
 ghost use Rattle.bench.specs.Calls.{Translates, Checks, Runs};
 
 // Number 0, and the image's length; or the refusal with its line.
@@ -43,13 +44,17 @@ pub fn translate(text: &[u8], image: &mut [u8]) -> Translated
     if answers::LONGEST_TEXT < text.len() {
         return answers::not_translated(answers::LONG_TEXT, 0);
     }
-    let survey = names::survey(text);
+    let survey = names::survey_lines(text);
     let fault = survey.fault;
     if fault.number != 0 {
         return answers::not_translated(fault.number, fault.line);
     }
     let counts = survey.counts;
-    let length = image::image_length(counts.cells as u16, counts.labels as u16, counts.variables as u16);
+    let length = image::image_length(
+        counts.cells as u16,
+        counts.labels as u16,
+        counts.variables as u16,
+    );
     if image.len() < length {
         return answers::not_translated(answers::SHORT_BUFFER, 0);
     }
