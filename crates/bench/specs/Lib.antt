@@ -3,3 +3,4 @@ pub mod Running
 pub mod Following
 pub mod Calls
 pub mod Sheet
+pub mod Demands

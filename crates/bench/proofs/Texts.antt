@@ -1,0 +1,71 @@
+-- An accepted text consists of bytes: its lines are printable, and what ends them is an LF or a CR.
+-- Assumes nothing.
+use mathlib.Core.Path.{_≡_, refl, sym, _∙_}
+use mathlib.Core.Bool.{Bool, true, false, cond, _&&_, true≢false}
+use mathlib.Core.List.{List, [], _∷_}
+use mathlib.Core.Option.{Option, none, some}
+use Prim.Native.Nat.{ℕ, zero, suc, _+_, _-_, _≤_, _<_}
+use native.Mathlib.Omega.{arith}
+use borrow.Author.Tests.{eqb-true}
+use lib.Dec.{T, eqb, leb, leb→le}
+use lib.ListN.{length, getD}
+use Rattle.numbers.specs.Tests.{all}
+use Rattle.program.proofs.Keys.{both, both-of}
+use Rattle.text.specs.Lines.{before, lines}
+use Rattle.text.specs.Tokens.{printable, tokens, uncommented}
+use Rattle.text.specs.Forms.{Line, statement, reading}
+use Rattle.text.specs.Faults.{badForm, firstFault}
+use Rattle.refusals.proofs.Rows.{row-3}
+use Rattle.refusals.proofs.First.{first-none}
+use Rattle.bench.specs.Demands.{Bytes}
+
+-- A line with a form is printable.
+formed : (l : List ℕ) → badForm l ≡ false → T (all printable l)
+unfolding badForm reading
+formed l e = go (all printable l) e where
+  go : (t : Bool) → elim (cond t (statement (tokens (uncommented l))) none) [ none ↦ true | some x ↦ false ] ≡ false → T t
+  go true e = tt
+  go false e = absurd (true≢false e)
+
+-- What holds of each line by its number holds of all.
+all-by : {A : Type 0} (p : A → Bool) (d : A) (xs : List A) → ((i : ℕ) → i < length xs → T (p (getD xs i d))) → T (all p xs)
+unfolding all
+all-by p d [] h = tt
+all-by p d (x ∷ xs) h = both-of (p x) (all p xs) (h 0 (omega arith)) (all-by p d xs (λ i l. h (suc i) (omega arith)))
+
+pub printable-byte : (b : ℕ) → T (printable b) → b < 256
+unfolding printable
+printable-byte b t = let h = leb→le b 126 (both (leb 32 b) (leb b 126) t .1) in omega arith
+
+one-more : (b : ℕ) (bs : List ℕ) → b < 256 → Bytes bs → Bytes (b ∷ bs)
+one-more b bs h f zero = h
+one-more b bs h f (suc k) = f k
+
+-- One more byte in front of the first line.
+front : (b : ℕ) (ls : List (List ℕ)) → T (all (all printable) (before b ls)) → T (printable b) × T (all (all printable) ls)
+unfolding all before
+front b [] t = (both (printable b) true (both (printable b && true) true t .0) .0, tt)
+front b (l ∷ ls) t =
+    let u = both (printable b && all printable l) (all (all printable) ls) t in
+    let v = both (printable b) (all printable l) (u .0) in
+    (v .0, both-of (all printable l) (all (all printable) ls) (v .1) (u .1))
+
+lines-bytes : (text : List ℕ) → T (all (all printable) (lines text)) → Bytes text
+unfolding lines all
+lines-bytes [] t = λ k. omega arith
+lines-bytes (b ∷ bs) t = go (eqb b 10) (eqb b 13) (eqb (getD bs 0 0) 10) refl refl (lines-bytes bs) t where
+  go : (x y z : Bool) → eqb b 10 ≡ x → eqb b 13 ≡ y → (T (all (all printable) (lines bs)) → Bytes bs)
+      → T (all (all printable) (cond x ([] ∷ lines bs) (cond (y && z) (lines bs) (before b (lines bs))))) → Bytes (b ∷ bs)
+  go true y z e f more t = let q = eqb-true b 10 e in one-more b bs (omega arith) (more t)
+  go false true true e f more t = let q = eqb-true b 13 f in one-more b bs (omega arith) (more t)
+  go false true false e f more t = let u = front b (lines bs) t in one-more b bs (printable-byte b (u .0)) (more (u .1))
+  go false false z e f more t = let u = front b (lines bs) t in one-more b bs (printable-byte b (u .0)) (more (u .1))
+
+-- Text 5: a text without faults.
+pub clean-bytes : (text : List ℕ) → firstFault text .number ≡ 0 → Bytes text
+clean-bytes text e =
+    lines-bytes text
+    (all-by (all printable) [] (lines text)
+    (λ i h.
+    let y : suc i - 1 ≡ i = omega arith in
+    formed (getD (lines text) i []) (rw y at (sym (row-3 text (suc i) (omega arith) h) ∙ first-none text .0 e 3 (suc i)))))
