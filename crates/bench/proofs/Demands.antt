@@ -1,18 +1,18 @@
 -- The bench's own calls meet the customer's three demands.
 -- Assumes nothing.
 use mathlib.Core.Path.{_≡_, refl, sym, subst, ap, ap₂, _∙_}
-use mathlib.Core.Bool.{Bool, true, false, cond, _&&_, not, true≢false, false≢true}
+use mathlib.Core.Bool.{Bool, true, false, _&&_, not, true≢false, false≢true}
 use mathlib.Core.List.{List, [], _∷_, _++_}
 use mathlib.Core.Logic.{_↔_, ⊎-elim}
 use Prim.Native.Nat.{ℕ, zero, suc, _+_, _*_, _≤_, _<_}
 use native.Mathlib.Omega.{arith}
 use borrow.Author.Tests.{ltb-true, ltb-false, le-ltb, eqb-true, eqb-false, ne-eqb}
 use lib.Dec.{eqb, ltb}
-use lib.ListN.{length, take, drop, getD}
+use lib.ListN.{length, take, drop}
 use lib.Seq.{take-at}
-use Rattle.numbers.specs.Tests.{lowest, firstBelow}
+use Rattle.numbers.specs.Tests.{lowest}
 use Rattle.text.specs.declared.Fault.{Fault}
-use Rattle.text.specs.Faults.{overlong, fault, firstFault, hasFault}
+use Rattle.text.specs.Faults.{overlong, fault, firstFault}
 use Rattle.image.specs.Check.{badLength, badEdition, badTrailer, badCells, badRecords, imageFaults, checked}
 use Rattle.machine.specs.Events.{badScript, badEvent, badEvents, firstBadEvent, eventCount, events}
 use Rattle.machine.specs.Run.{Course}
@@ -34,7 +34,7 @@ use Rattle.bench.specs.Calls.{Translates, Checks, Runs}
 use Rattle.bench.specs.declared.Translated.{Translated}
 use Rattle.bench.specs.declared.Checked.{Checked}
 use Rattle.bench.specs.declared.Ran.{Ran}
-use Rattle.bench.specs.Demands.{Bytes, Translation, Outcome, given, Lowest, NoRow, FirstFault, NoFault, FirstBad, TextRefused, ImageRefused, RunRefused, TurnsInto, Demand1, Demand2, Demand3, ourTranslate, ourCheck, ourRun}
+use Rattle.bench.specs.Demands.{Bytes, Translation, given, Lowest, NoRow, FirstFault, FirstBad, TextRefused, ImageRefused, RunRefused, TurnsInto, Demand1, Demand2, Demand3, ourTranslate, ourCheck, ourRun}
 use Rattle.bench.proofs.Texts.{clean-bytes}
 
 -- The promises of the calls (Calls.antt) say exactly that they are these functions.
@@ -237,6 +237,13 @@ pub image-refused : (s : List ℕ) → ImageRefused s (ourCheck s)
 unfolding checkedAs checked
 image-refused s = record { refused = lowest-exactly 20 (imageFaults s); none = lowest-zero 20 (imageFaults s) }
 
+-- An image's refusal is from 21 to 25.
+pub image-numbers : (s : List ℕ) → (checked s ≡ 0 → ⊥) → (21 ≤ checked s) × (checked s ≤ 25)
+unfolding checked imageFaults
+image-numbers s h =
+    ⊎-elim (λ z. absurd (h z)) (λ r. r)
+    (lowest-range 20 (badLength s ∷ badEdition s ∷ badTrailer s ∷ badCells s ∷ badRecords s ∷ []))
+
 -- Demand 1, running: the number, the index and the rest of the answer.
 module _ (s script : List ℕ) (budget : ℕ) (buffer : List ℕ) where
   abbrev number : ℕ
@@ -266,13 +273,6 @@ module _ (s script : List ℕ) (budget : ℕ) (buffer : List ℕ) where
   ran-kept : (number ≡ 0 → ⊥) → ranInto s script budget buffer ≡ buffer
   unfolding ranInto
   ran-kept h = rw (ne-eqb number 0 h) refl
-
-  -- An image's refusal is from 21 to 25, a run's from 32 up.
-  image-numbers : (checked s ≡ 0 → ⊥) → (21 ≤ checked s) × (checked s ≤ 25)
-  unfolding checked imageFaults
-  image-numbers h =
-      ⊎-elim (λ z. absurd (h z)) (λ r. r)
-      (lowest-range 20 (badLength s ∷ badEdition s ∷ badTrailer s ∷ badCells s ∷ badRecords s ∷ []))
 
   module _ (good : checked s ≡ 0) where
     by-rows : number ≡ lowest 32 rows
@@ -310,7 +310,7 @@ module _ (s script : List ℕ) (budget : ℕ) (buffer : List ℕ) where
     bad-numbers k = (λ e. lowest-exactly 20 (imageFaults s) k .0 (sym by-image ∙ e), λ c. by-image ∙ lowest-exactly 20 (imageFaults s) k .1 c)
 
     bad-runs : (k : ℕ) → (number ≡ 32 + k) ↔ (NoRow (imageFaults s) × Lowest rows k)
-    bad-runs k = (λ e. let b = by-image in let r = image-numbers bad in absurd (omega arith), λ c. absurd (some-fault (c .0)))
+    bad-runs k = (λ e. let b = by-image in let r = image-numbers s bad in absurd (omega arith), λ c. absurd (some-fault (c .0)))
 
     bad-none : (number ≡ 0) ↔ (NoRow (imageFaults s) × NoRow rows)
     bad-none = (λ e. absurd (bad (sym by-image ∙ e)), λ c. absurd (some-fault (c .0)))

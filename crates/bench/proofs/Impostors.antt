@@ -1,9 +1,9 @@
 -- Impostors: calls that a loose statement would let through, each shown to break the demand named for it (Tight 4), whatever the parts are that it leaves free.
 -- Assumes nothing.
-use mathlib.Core.Path.{_≡_, refl, sym, subst, ap, _∙_}
-use mathlib.Core.Bool.{Bool, true, false}
+use mathlib.Core.Path.{_≡_, refl, sym, ap, _∙_}
+use mathlib.Core.Bool.{true, false}
 use mathlib.Core.List.{List, [], _∷_, _++_}
-use Prim.Native.Nat.{ℕ, _+_, _*_, _-_, _≤_, _<_}
+use Prim.Native.Nat.{ℕ, _+_, _-_, _≤_}
 use native.Mathlib.Omega.{arith}
 use lib.ListN.{length, take, drop, getD, set, replicate}
 use lib.Seq.{take-at}
@@ -11,7 +11,6 @@ use Rattle.numbers.specs.Bits as Bits
 use Rattle.numbers.specs.Bytes as B
 use Rattle.numbers.specs.Tests as Tests
 use Rattle.program.specs.Cells as Cells
-use Rattle.program.specs.Statements as Statements
 use Rattle.program.specs.Variables as Variables
 use Rattle.image.specs.Check as Check
 use Rattle.image.specs.Check.{checked}
@@ -29,13 +28,13 @@ use Rattle.agreement.proofs.Checked.{image-checked, image-most}
 use Rattle.bench.specs.Translating.{answered, translated, translatedInto}
 use Rattle.bench.specs.Running as Running
 use Rattle.bench.specs.Running.{checkedAs, stateOf, ran, ranInto}
-use Rattle.bench.specs.Following.{followed, followedInto}
+use Rattle.bench.specs.Following.{followed}
 use Rattle.bench.specs.Calls.{Translates, Checks, Runs}
 use Rattle.bench.specs.declared.Translated.{Translated}
 use Rattle.bench.specs.declared.Checked.{Checked}
 use Rattle.bench.specs.declared.State.{State}
 use Rattle.bench.specs.declared.Ran.{Ran}
-use Rattle.bench.specs.Demands.{Bytes, Translation, Translate, Check, Outcome, Run, given, Demand2, Demand3, ourTranslate, ourRun}
+use Rattle.bench.specs.Demands.{Bytes, Translation, Translate, Check, Outcome, Run, given, Demand2, Demand3, ourRun}
 use Rattle.bench.specs.Sheet.{fresh, feeder, feederImage, feederRecords, twoArrivals, trailer0, sheet-holds}
 use Rattle.bench.proofs.Texts.{clean-bytes}
 use Rattle.bench.proofs.Demands.{sound, sound-accepted, text-refused, translated-fits, into-fits, run-accepted}

@@ -3,6 +3,7 @@ pub mod Translations
 pub mod Texts
 pub mod Demands
 pub mod Unique
+pub mod Decided
 pub mod Impostors
 pub mod Promised
 pub mod States

@@ -6,12 +6,11 @@ use Prim.Native.Nat.{ℕ, _*_, _-_}
 use lib.ListN.{length, length-replicate}
 use Rattle.image.specs.Check.{checked}
 use Rattle.agreement.proofs.Checked.{image-checked}
-use Rattle.translation.specs.Images.{image, accepted}
+use Rattle.translation.specs.Images.{image}
 use Rattle.bench.specs.Translating.{answered, translated}
 use Rattle.bench.specs.Running.{checkedAs, ran}
 use Rattle.bench.specs.Calls.{Translates, Checks, Runs}
 use Rattle.bench.specs.declared.Translated.{Translated}
-use Rattle.bench.specs.declared.Checked.{Checked}
 use Rattle.bench.specs.Sheet.{Row, Trial, fresh, ranWith, RunsAs, Each, Holds, sheet, sheet-holds}
 use Rattle.bench.proofs.Demands.{text-refused}
 use Rattle.bench.proofs.Impostors.{row-accepted, row-image}

@@ -3,15 +3,15 @@
 use mathlib.Core.Path.{_≡_, refl, sym, subst, ap, _∙_}
 use mathlib.Core.Bool.{Bool, true, false, cond, _&&_, not}
 use mathlib.Core.List.{List, [], _∷_}
-use Prim.Native.Nat.{ℕ, zero, suc, _+_, _*_, _%_, _/_, _≤_, _<_}
+use Prim.Native.Nat.{ℕ, zero, suc, _+_, _*_, _≤_, _<_}
 use native.Mathlib.Omega.{arith}
 use borrow.Author.Tests.{ltb-false}
 use lib.Dec.{T, eqb, leb, ltb, eqb→eq, le→leb}
-use lib.IntN.{ℤ, pos}
+use lib.IntN.{pos}
 use lib.ListN.{length, getD}
 use Rattle.numbers.specs.Bytes.{field}
 use Rattle.numbers.specs.Tests.{all, any, anyBelow, listed}
-use Rattle.program.specs.Variables.{inRange, literals, present, readOnly}
+use Rattle.program.specs.Variables.{present, readOnly}
 use Rattle.program.specs.Statements.{Statement, OE, Disarm, writes, targets}
 use Rattle.program.specs.Cells.{noTarget, same, holdOf, statementBy, statementOf}
 use Rattle.program.specs.declared.Operand.{Operand}
@@ -20,7 +20,6 @@ use Rattle.program.proofs.Keys.{both-of}
 use Rattle.image.specs.Layout.{cellCount, labelCount, variableCount, cellAt, labelTarget, startValue, startValues}
 use Rattle.image.specs.Check.{Use, uses, layouts, fits, goodWritten, goodTarget, badLength, imageFaults, checked}
 use Rattle.machine.specs.declared.Machine.{Machine}
-use Rattle.machine.specs.declared.Event.{Event}
 use Rattle.machine.specs.Turn.{startMachine}
 use Rattle.machine.specs.Events.{badEvents, goodEvent, eventAt, eventCount, events}
 use Rattle.machine.proofs.Scripts.{good-events}
@@ -32,7 +31,7 @@ use Rattle.rules.proofs.Run.{ruled-run}
 use Rattle.rules.proofs.Start.{ruled-start}
 use Rattle.rules.proofs.Never.{run-bounded}
 use Rattle.refusals.proofs.Lowest.{any-exactly, lowest-zero}
-use Rattle.listing.proofs.Accepted.{Accepted, accepted, faultless}
+use Rattle.listing.proofs.Accepted.{accepted, faultless}
 use Rattle.listing.proofs.Recorded.{Recorded, recorded}
 use Rattle.listing.proofs.Cells.{from-any, fitting}
 use Rattle.listing.proofs.Kit as K

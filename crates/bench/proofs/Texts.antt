@@ -3,8 +3,8 @@
 use mathlib.Core.Path.{_≡_, refl, sym, _∙_}
 use mathlib.Core.Bool.{Bool, true, false, cond, _&&_, true≢false}
 use mathlib.Core.List.{List, [], _∷_}
-use mathlib.Core.Option.{Option, none, some}
-use Prim.Native.Nat.{ℕ, zero, suc, _+_, _-_, _≤_, _<_}
+use mathlib.Core.Option.{none, some}
+use Prim.Native.Nat.{ℕ, zero, suc, _-_, _<_}
 use native.Mathlib.Omega.{arith}
 use borrow.Author.Tests.{eqb-true}
 use lib.Dec.{T, eqb, leb, leb→le}
@@ -13,7 +13,7 @@ use Rattle.numbers.specs.Tests.{all}
 use Rattle.program.proofs.Keys.{both, both-of}
 use Rattle.text.specs.Lines.{before, lines}
 use Rattle.text.specs.Tokens.{printable, tokens, uncommented}
-use Rattle.text.specs.Forms.{Line, statement, reading}
+use Rattle.text.specs.Forms.{statement, reading}
 use Rattle.text.specs.Faults.{badForm, firstFault}
 use Rattle.refusals.proofs.Rows.{row-3}
 use Rattle.refusals.proofs.First.{first-none}
