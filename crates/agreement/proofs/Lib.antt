@@ -10,3 +10,4 @@ pub mod Cells
 pub mod Course
 pub mod Names
 pub mod Checked
+pub mod Sentences

@@ -1,0 +1,89 @@
+-- Sentences of the paper that say only, one or never, about the definitions.
+-- Assumes nothing.
+use mathlib.Core.Path.{_≡_, refl, sym, ap, _∙_}
+use mathlib.Core.Bool.{Bool, true, false, cond, _&&_, _||_, not, true≢false}
+use mathlib.Core.List.{List, [], _∷_}
+use mathlib.Core.Option.{Option, none, some}
+use Prim.Native.Nat.{ℕ, suc, _+_, _-_, _≤_, _<_}
+use native.Mathlib.Omega.{arith}
+use borrow.Author.Tests.{lt-leb, le-leb, ltb-false}
+use lib.Dec.{eqb, leb, ltb}
+use Rattle.numbers.specs.Tests.{anyBelow, eqList, numbered}
+use Rattle.program.specs.Names.{Name, twoCharacters, userName}
+use Rattle.text.specs.Tokens.{Token}
+use Rattle.text.specs.Forms.{Slot, Is, New, Target, Written, Left, Right, Start, Operator, Comparison, Parts, Taken, takes, takesFirst, takesWord, operators, comparisons, variableName}
+use Rattle.machine.specs.declared.Machine.{Machine}
+use Rattle.machine.specs.declared.Effect.{Effect}
+use Rattle.machine.specs.declared.Event.{Event}
+use Rattle.machine.specs.Turn.{turn}
+use Rattle.machine.specs.Events.{eventAt, eventCount, badEvent, badEvents, goodEvent, recordBytes}
+use Rattle.machine.specs.Run.{Course, runFrom, reach, after, ended}
+use Rattle.machine.proofs.Scripts.{none-below}
+
+-- Turn 7: before the end and with turns left, the events of the turn act, then just one statement; the run goes on from there, or stops.
+module _ (act : Machine → Effect) (cells left t : ℕ) (es : List Event) (m : Machine) (inside : m .next < cells) where
+  abbrev there : Machine
+  there = reach t es m .machine
+
+  pub one-statement : let now = turn cells (act there) there in
+      runFrom act cells (suc left) t es m
+      ≡ after (recordBytes t (now .wrote)) (cond (now .stops) (ended 2 (suc t) (now .machine)) (runFrom act cells left (suc t) (reach t es m .left) (now .machine)))
+  unfolding runFrom
+  one-statement = rw (lt-leb cells (m .next) inside) (by-stop (turn cells (act there) there .stops))
+    where
+      by-stop : (b : Bool) → let now = turn cells (act there) there in
+          cond b (after (recordBytes t (now .wrote)) (ended 2 (suc t) (now .machine))) (after (recordBytes t (now .wrote)) (runFrom act cells left (suc t) (reach t es m .left) (now .machine)))
+          ≡ after (recordBytes t (now .wrote)) (cond b (ended 2 (suc t) (now .machine)) (runFrom act cells left (suc t) (reach t es m .left) (now .machine)))
+      by-stop true = refl
+      by-stop false = refl
+
+-- Events 2: in a script without a bad event turns never fall.
+right-none : (a b : Bool) → (a || b) ≡ false → b ≡ false
+right-none true b h = absurd (true≢false h)
+right-none false b h = h
+
+pub turns-rise : (s : List ℕ) (k : ℕ) → badEvents s ≡ false → suc k < eventCount s → eventAt s k .turn ≤ eventAt s (suc k) .turn
+unfolding badEvents badEvent
+turns-rise s k h l =
+    let fine : badEvent s (suc k) ≡ false = none-below (badEvent s) (eventCount s) (suc k) h l in
+    let low : (leb 1 (suc k) && ltb (eventAt s (suc k) .turn) (eventAt s (suc k - 1) .turn)) ≡ false = right-none (not (goodEvent (eventAt s (suc k)))) _ fine in
+    let one : leb 1 (suc k) ≡ true = le-leb 1 (suc k) (omega arith) in
+    let back : suc k - 1 ≡ k = omega arith in
+    let test : ltb (eventAt s (suc k) .turn) (eventAt s k .turn) ≡ false = rw (one, back) at low in
+    ltb-false (eventAt s (suc k) .turn) (eventAt s k .turn) test
+
+-- Text 14: every place in a form but an operand and a start value takes a single token; so a minus is taken with digits behind it only where one of those begins.
+abbrev Operands : Slot → Type 0
+Operands (Is w) = ⊥
+Operands New = ⊥
+Operands Target = ⊥
+Operands Written = ⊥
+Operands Left = Unit {0}
+Operands Right = Unit {0}
+Operands Start = Unit {0}
+Operands Operator = ⊥
+Operands Comparison = ⊥
+
+abbrev Rest : Option (Taken Parts) → List Token → Type 0
+Rest none ts = Unit {0}
+Rest (some f) ts = f .rest ≡ ts
+
+rest-if : (b : Bool) (p : Parts) (ts : List Token) → Rest (cond b (some (record { part = p; rest = ts })) none) ts
+rest-if true p ts = refl
+rest-if false p ts = tt
+
+rest-unless : (b : Bool) (p : Parts) (ts : List Token) → Rest (cond b none (some (record { part = p; rest = ts }))) ts
+rest-unless true p ts = tt
+rest-unless false p ts = refl
+
+pub one-token : (s : Slot) (t : Token) (ts : List Token) (p : Parts) → (Operands s → ⊥) → Rest (takes s (t ∷ ts) p) ts
+unfolding takes takesFirst takesWord
+one-token (Is w) t ts p h = rest-if (eqList (t .chars) w) _ ts
+one-token New t ts p h = rest-if (twoCharacters (t .chars)) _ ts
+one-token Target t ts p h = rest-if (userName (t .chars)) _ ts
+one-token Written t ts p h = rest-if (variableName (t .chars)) _ ts
+one-token Left t ts p h = absurd (h tt)
+one-token Right t ts p h = absurd (h tt)
+one-token Start t ts p h = absurd (h tt)
+one-token Operator t ts p h = rest-unless (eqb (numbered operators (t .chars)) 0) _ ts
+one-token Comparison t ts p h = rest-unless (eqb (numbered comparisons (t .chars)) 0) _ ts
