@@ -24,9 +24,23 @@ use Rattle.machine.specs.Code.{Inputs}
 use Rattle.machine.proofs.Inputs.{inputs-start, inputs-turn}
 use Rattle.machine.proofs.Written.{record-most}
 use Rattle.running.specs.declared.Reached.{Reached}
+use Rattle.running.specs.declared.Stepped.{Stepped}
 use Rattle.running.specs.Courses.{cellActs, imageCourse, over}
-use Rattle.running.specs.Code.{eventsFrom, ReachedBy, EndedAs}
+use Rattle.running.specs.Code.{eventsFrom, ReachedBy, SteppedBy, EndedAs}
 use Rattle.running.proofs.Scripts.{events-all}
+
+-- One turn: what the events reach, then what the statement at the next cell gives.
+pub stepped-by : {s script : List ℕ} {cells t k : ℕ} {m : Machine} {r : Reached} {c : Cell} {d : Turned} → ReachedBy script t k m r → c ≡ cellAt s (r .machine .next)
+    → d ≡ turn cells (effect same same (r .machine .variables) (r .machine .kept) (r .machine .hold) (statementOf c)) (r .machine)
+    → SteppedBy s cells script t k m (record { turned = d; left = r .left })
+unfolding cellActs
+stepped-by {cells = cells} {r = r} {c = c} er ec ed =
+    record {
+      turned = rw (← er .machine, ← ec) ed;
+      left = er .left;
+      within = er .within;
+      inputs = rw ed (inputs-turn (r .machine) (er .inputs) same same cells (statementOf c));
+    }
 
 -- The run from turn t on, with the events from number k on.
 module _ (s script : List ℕ) (budget : ℕ) where
@@ -45,34 +59,32 @@ module _ (s script : List ℕ) (budget : ℕ) where
   unfolding runFrom
   run-spent t k m h l = let e : budget - t ≡ 0 = omega arith in rw (e, lt-leb (cellCount s) (m .next) h)
 
-  -- One turn: the events act, then the statement at the next cell.
-  module _ (t k : ℕ) (m : Machine) (h : m .next < cellCount s) (l : t < budget) {r : Reached} (er : ReachedBy script t k m r) {c : Cell} {d : Turned}
-      (ec : c ≡ cellAt s (r .machine .next)) (ed : d ≡ turn (cellCount s) (effect same same (r .machine .variables) (r .machine .kept) (r .machine .hold) (statementOf c)) (r .machine)) where
-    turn-taken : d ≡ turn (cellCount s) (cellActs s (reach t (eventsFrom script k) m .machine)) (reach t (eventsFrom script k) m .machine)
-    unfolding cellActs
-    turn-taken = rw (← er .machine, ← ec) ed
+  -- One turn is taken.
+  module _ (t k : ℕ) (m : Machine) (h : m .next < cellCount s) (l : t < budget) {r : Stepped} (er : SteppedBy s (cellCount s) script t k m r) where
+    abbrev bytes : List ℕ
+    bytes = recordBytes t (r .turned .wrote)
 
-    run-stopped : d .stops ≡ true → rest t k m ≡ after (recordBytes t (d .wrote)) (ended 2 (t + 1) (d .machine))
+    run-stopped : r .turned .stops ≡ true → rest t k m ≡ after bytes (ended 2 (t + 1) (r .turned .machine))
     unfolding runFrom
     run-stopped e =
         let n : budget - t ≡ suc (budget - (t + 1)) = omega arith in
-        rw (n, lt-leb (cellCount s) (m .next) h, ← turn-taken, e, add-one t)
+        rw (n, lt-leb (cellCount s) (m .next) h, ← er .turned, e, add-one t)
 
-    run-goes : d .stops ≡ false → rest t k m ≡ after (recordBytes t (d .wrote)) (rest (t + 1) (r .left) (d .machine))
+    run-goes : r .turned .stops ≡ false → rest t k m ≡ after bytes (rest (t + 1) (r .left) (r .turned .machine))
     unfolding runFrom
     run-goes e =
         let n : budget - t ≡ suc (budget - (t + 1)) = omega arith in
-        rw (n, lt-leb (cellCount s) (m .next) h, ← turn-taken, e, add-one t, er .left)
+        rw (n, lt-leb (cellCount s) (m .next) h, ← er .turned, e, add-one t, er .left)
 
 -- Bytes written from a place on: what stands before their end, and behind it.
 module _ (at : ℕ) (b bs : List ℕ) (fits : at + length bs ≤ length b) where
   in-front : length (take at b ++ bs) ≡ at + length bs
   in-front = rw (length-append (take at b) bs, length-take-le at b (omega arith))
 
-  take-written : take (at + length bs) (sets b at bs) ≡ take at b ++ bs
+  pub take-written : take (at + length bs) (sets b at bs) ≡ take at b ++ bs
   take-written = rw (sets-eq bs b at fits) (take-at (take at b ++ bs) (drop (at + length bs) b) (at + length bs) in-front)
 
-  drop-written : drop (at + length bs) (sets b at bs) ≡ drop (at + length bs) b
+  pub drop-written : drop (at + length bs) (sets b at bs) ≡ drop (at + length bs) b
   drop-written = rw (sets-eq bs b at fits) (drop-at (take at b ++ bs) (drop (at + length bs) b) (at + length bs) in-front)
 
 -- The buffer has the records up to `at`, and behind them what it had at the start, which is `b₀`; with what is left to run they give the whole.
@@ -147,28 +159,26 @@ module _ {s script : List ℕ} {budget : ℕ} {b₀ : List ℕ} where
     pub budget-used : m .next < cells → budget ≤ t → Ends 3 t at m (imageCourse s script budget) b₀ b
     budget-used h l = ended-as (rw (run-spent s script budget t k m (omega arith) l) at (u .written))
 
-    -- One turn: the events act, then the statement at the next cell, and its record is written.
-    module _ (room : 12 * budget ≤ length b₀) (h : m .next < cells) (l : t < budget) {r : Reached} (er : ReachedBy script t k m r)
-        {c : Cell} {d : Turned} {at′ : ℕ} {b′ : List ℕ} (ec : c ≡ cellAt s (r .machine .next))
-        (ed : d ≡ turn cells (effect same same (r .machine .variables) (r .machine .kept) (r .machine .hold) (statementOf c)) (r .machine))
-        (ea : at′ ≡ at + length (recordBytes t (d .wrote))) (eb : b′ ≡ sets b at (recordBytes t (d .wrote))) where
-      fits : at + length (recordBytes t (d .wrote)) ≤ length b
-      fits = omega (arith, record-most t (d .wrote), u .most, u .size)
+    -- One turn is taken, and its record is written.
+    module _ (room : 12 * budget ≤ length b₀) (h : m .next < cells) (l : t < budget) {r : Stepped} (er : SteppedBy s cells script t k m r)
+        {at′ : ℕ} {b′ : List ℕ} (ea : at′ ≡ at + length (recordBytes t (r .turned .wrote))) (eb : b′ ≡ sets b at (recordBytes t (r .turned .wrote))) where
+      fits : at + length (recordBytes t (r .turned .wrote)) ≤ length b
+      fits = omega (arith, record-most t (r .turned .wrote), u .most, u .size)
 
-      more : (left : Course) → rest s script budget t k m ≡ after (recordBytes t (d .wrote)) left → Written (imageCourse s script budget) b₀ b′ at′ left
-      more left e = rw (ea, eb) (written-more (recordBytes t (d .wrote)) (u .written) fits e)
+      more : (left : Course) → rest s script budget t k m ≡ after (recordBytes t (r .turned .wrote)) left → Written (imageCourse s script budget) b₀ b′ at′ left
+      more left e = rw (ea, eb) (written-more (recordBytes t (r .turned .wrote)) (u .written) fits e)
 
       -- Turn 25: the run stops after the turn.
-      pub stopped : d .stops ≡ true → Ends 2 (t + 1) at′ (d .machine) (imageCourse s script budget) b₀ b′
-      stopped e = ended-as (more (ended 2 (t + 1) (d .machine)) (run-stopped s script budget t k m (omega arith) l er ec (rw en at ed) e))
+      pub stopped : r .turned .stops ≡ true → Ends 2 (t + 1) at′ (r .turned .machine) (imageCourse s script budget) b₀ b′
+      stopped e = ended-as (more (ended 2 (t + 1) (r .turned .machine)) (run-stopped s script budget t k m (omega arith) l (rw en at er) e))
 
-      pub goes-on : d .stops ≡ false → Underway s script budget b₀ b′ (d .machine) (t + 1) (r .left) at′
+      pub goes-on : r .turned .stops ≡ false → Underway s script budget b₀ b′ (r .turned .machine) (t + 1) (r .left) at′
       goes-on e =
           record {
             turns = omega arith;
             within = er .within;
-            inputs = rw ed (inputs-turn (r .machine) (er .inputs) same same cells (statementOf c));
-            most = omega (arith, record-most t (d .wrote), u .most);
-            size = rw eb (length-sets b at (recordBytes t (d .wrote)) ∙ u .size);
-            written = more (rest s script budget (t + 1) (r .left) (d .machine)) (run-goes s script budget t k m (omega arith) l er ec (rw en at ed) e);
+            inputs = er .inputs;
+            most = omega (arith, record-most t (r .turned .wrote), u .most);
+            size = rw eb (length-sets b at (recordBytes t (r .turned .wrote)) ∙ u .size);
+            written = more (rest s script budget (t + 1) (r .left) (r .turned .machine)) (run-goes s script budget t k m (omega arith) l (rw en at er) e);
           }

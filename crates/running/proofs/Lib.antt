@@ -1,2 +1,3 @@
 pub mod Scripts
 pub mod Courses
+pub mod Visits

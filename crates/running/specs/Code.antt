@@ -8,11 +8,14 @@ use Rattle.numbers.specs.Tests.{listed}
 use Rattle.machine.specs.declared.Machine.{Machine}
 use Rattle.machine.specs.declared.Event.{Event}
 use Rattle.machine.specs.Events.{eventAt, eventCount}
+use Rattle.machine.specs.Turn.{turn}
 use Rattle.machine.specs.Run.{Course, reach}
 use Rattle.machine.specs.Code.{Inputs}
 use Rattle.running.specs.declared.Reached.{Reached}
+use Rattle.running.specs.declared.Stepped.{Stepped}
 use Rattle.running.specs.declared.Ended.{Ended}
-use Rattle.running.specs.Courses.{over}
+use Rattle.running.specs.Courses.{cellActs, over}
+use Rattle.running.specs.Visits.{visitsOver}
 
 -- The events of a script from the one with this number on.
 unfoldable pub eventsFrom : List ℕ → ℕ → List Event
@@ -25,6 +28,13 @@ pub record ReachedBy (s : List ℕ) (t first : ℕ) (m : Machine) (r : Reached) 
   pub within : r .left ≤ eventCount s
   pub inputs : Inputs (r .machine .variables)
 
+-- Turn t was taken: its events have acted, from the one with this number on, then the statement at the next cell.
+pub record SteppedBy (s : List ℕ) (cells : ℕ) (script : List ℕ) (t first : ℕ) (m : Machine) (r : Stepped) : Type 0 where
+  pub turned : let here = reach t (eventsFrom script first) m .machine in r .turned ≡ turn cells (cellActs s here) here
+  pub left : eventsFrom script (r .left) ≡ reach t (eventsFrom script first) m .left
+  pub within : r .left ≤ eventCount script
+  pub inputs : Inputs (r .turned .machine .variables)
+
 -- A run went like this course, and its records stand in the buffer over what that held.
 pub record EndedAs (course : Course) (r : Ended) (before after : List ℕ) : Type 0 where
   pub reason : r .reason ≡ course .reason
@@ -32,3 +42,8 @@ pub record EndedAs (course : Course) (r : Ended) (before after : List ℕ) : Typ
   pub bytes : r .bytes ≡ length (course .records)
   pub machine : r .machine ≡ course .machine
   pub buffer : after ≡ over course before
+
+-- So many places were visited, and they stand in the buffer over what that held.
+pub record VisitedAs (places : List ℕ) (r : ℕ) (before after : List ℕ) : Type 0 where
+  pub turns : r ≡ length places
+  pub buffer : after ≡ visitsOver places before

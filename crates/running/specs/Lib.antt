@@ -1,2 +1,3 @@
 pub mod Courses
+pub mod Visits
 pub mod Code

@@ -1,15 +1,17 @@
 // The run of an image, turn by turn.
 ghost use mathlib.Core.Path.{_≡_};
 ghost use mathlib.Core.Bool.{false};
-ghost use Prim.Native.Nat.{_*_, _≤_};
+ghost use Prim.Native.Nat.{_*_, _≤_, _<_};
 ghost use lib.ListN.{length};
 ghost use Rattle.image.specs.Layout.{startValues};
 ghost use Rattle.machine.specs.Turn.{startMachine};
 ghost use Rattle.machine.specs.Events.{badScript, badEvents, eventCount};
 ghost use Rattle.machine.specs.Code.{Inputs};
 ghost use Rattle.running.specs.Courses.{imageCourse};
-ghost use Rattle.running.specs.Code.{ReachedBy, EndedAs};
+ghost use Rattle.running.specs.Visits.{imageVisits};
+ghost use Rattle.running.specs.Code.{ReachedBy, SteppedBy, EndedAs, VisitedAs};
 use machine::Machine;
+use machine::Turned;
 use machine::events::event_at;
 use machine::events::event_count;
 use machine::records::write_record;
@@ -17,6 +19,12 @@ use machine::records::write_record;
 // The machine once the events of a turn have acted, and the number of the first event after them.
 pub struct Reached {
     pub machine: Machine,
+    pub left: usize,
+}
+
+// What one turn came to, and the number of the first event after it.
+pub struct Stepped {
+    pub turned: Turned,
     pub left: usize,
 }
 
@@ -76,6 +84,27 @@ fn reach(events: &[u8], turn: u32, first: usize, machine: Machine) -> Reached
     }
 }
 
+// One turn of an image with so many cells: its events act, from the event with this number on, then the statement at the machine's next cell.
+pub fn step(
+    image: &[u8],
+    cells: u16,
+    events: &[u8],
+    turn: u32,
+    first: usize,
+    machine: Machine,
+) -> Stepped
+    requires { ⌜ (eventCount (now events) ≤ 4096) × (badEvents (now events) ≡ false) × (first ≤ eventCount (now events)) × Inputs (machine .variables) × (machine .next < cells) ⌝ }
+    ensures { λ r. ⌜ SteppedBy (now (image .entry)) cells (now (events .entry)) turn first machine r ⌝ }
+{
+    let reached = reach(events, turn, first, machine);
+    let here = reached.machine;
+    let turned = here.turn(image::cell_at(image, here.next), cells);
+    Stepped {
+        turned,
+        left: reached.left,
+    }
+}
+
 // The run of an image, against the events of a script and within a budget of turns. Its records go to the buffer.
 pub fn course(image: &[u8], events: &[u8], budget: u32, records: &mut [u8]) -> Ended
     requires { ⌜ (badScript (now events) ≡ false) × (badEvents (now events) ≡ false) × (12 * budget ≤ length (now records)) ⌝ }
@@ -93,14 +122,12 @@ pub fn course(image: &[u8], events: &[u8], budget: u32, records: &mut [u8]) -> E
         if budget <= turns {
             break Ended::BUDGET_USED;
         }
-        let reached = reach(events, turns, event, machine);
-        let here = reached.machine;
-        let turned = here.turn(image::cell_at(image, here.next), cells);
-        bytes = write_record(records, bytes, turns, turned.wrote);
-        machine = turned.machine;
-        event = reached.left;
+        let stepped = step(image, cells, events, turns, event, machine);
+        bytes = write_record(records, bytes, turns, stepped.turned.wrote);
+        machine = stepped.turned.machine;
+        event = stepped.left;
         turns += 1;
-        if turned.stops {
+        if stepped.turned.stops {
             break Ended::STOPPED;
         }
     };
@@ -110,4 +137,33 @@ pub fn course(image: &[u8], events: &[u8], budget: u32, records: &mut [u8]) -> E
         bytes: bytes,
         machine: machine,
     }
+}
+
+// How many bytes a place takes among the places of a run.
+const PLACE_BYTES: usize = 2;
+
+// The places of an image's run: the machine's next cell at each turn, one behind the other to the front of the buffer. How many turns there were is handed back.
+pub fn visit(image: &[u8], events: &[u8], budget: u32, visits: &mut [u8]) -> usize
+    requires { ⌜ (badScript (now events) ≡ false) × (badEvents (now events) ≡ false) × (2 * budget ≤ length (now visits)) ⌝ }
+    ensures { λ r. ⌜ VisitedAs (imageVisits (now (image .entry)) (now (events .entry)) budget) r (now (visits .entry)) (now (visits .exit)) ⌝ }
+{
+    let cells = image::cell_count(image);
+    let mut machine = started(image);
+    let mut taken: u32 = 0;
+    let mut event: usize = 0;
+    while taken < budget {
+        if cells <= machine.next {
+            return taken as usize;
+        }
+        let at = PLACE_BYTES * (taken as usize);
+        numbers::write(visits, at, PLACE_BYTES, machine.next as u64);
+        let stepped = step(image, cells, events, taken, event, machine);
+        machine = stepped.turned.machine;
+        event = stepped.left;
+        taken += 1;
+        if stepped.turned.stops {
+            return taken as usize;
+        }
+    }
+    taken as usize
 }

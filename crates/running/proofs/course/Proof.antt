@@ -4,7 +4,7 @@ use mathlib.Core.Path.{_≡_, refl, sym, _∙_}
 use Prim.Native.Nat.{_-_, _≤_, _<_}
 use native.Mathlib.Omega.{arith}
 use borrow.Author.Needs.{needs}
-use Rattle.running.proofs.Scripts.{few-events, reached-next}
+use Rattle.running.proofs.Scripts.{few-events}
 use Rattle.running.proofs.Courses.{Underway, underway, past-last, budget-used, stopped, goes-on}
 use Rattle.running.proofs.course.Statement.{statement}
 use Rattle.running.proofs.course.Tie as tie
@@ -26,40 +26,35 @@ started-requires c κs = search needs
 loop-holds : tie.Need-loop-holds Inv-loop μ-loop
 loop-holds c = underway (c .started .ensures)
 
-reach-requires : tie.Need-reach-requires Inv-loop μ-loop
-reach-requires c κs =
+step-requires : tie.Need-step-requires Inv-loop μ-loop
+step-requires c κs =
     let p = c .before .before .before .before .before .before .before .before .before .pre in
     let u = c .before .before .before .loop .inv in
-    (few-events _ (p .0), p .1, u .within, u .inputs)
-
-cell-at-requires : tie.Need-cell-at-requires Inv-loop μ-loop
-cell-at-requires c κs = search needs
-
-turn-requires : tie.Need-turn-requires Inv-loop μ-loop
-turn-requires c κs = omega (arith, c .before .before .before .before .before .before .before .before .cell-count .ok, c .before .before .before .before .if1 .left, reached-next (c .before .before .reach .ensures))
+    (few-events _ (p .0), p .1, u .within, u .inputs, c .before .if1 .left)
 
 write-record-requires : tie.Need-write-record-requires Inv-loop μ-loop
 write-record-requires c κs =
-    let st = c .before .before .before .before .before .before .before .before .before .before .before .before .before .before in
-    let u = c .before .before .before .before .before .before .before .before .loop .inv in
-    omega (arith, st .pre .2, c .before .before .before .before .before .if2 .left, u .most, u .size)
+    let two = c .before .before in
+    let at = two .before .before .before in
+    let st = at .before .before .before .before .before .before in
+    omega (arith, st .pre .2, two .if2 .left, at .loop .inv .most, at .loop .inv .size)
 
 add-turns : tie.Need-add-turns Inv-loop μ-loop
 add-turns c =
-    let st = c .before .before .before .before .before .before .before .before .before .before .before .before .before .before .before .before .before .before in
-    let l = c .before .before .before .before .before .before .before .before .before .if2 .left in
-    record { fits = omega (arith, l, st .fits .budget .fits) }
+    let two = c .before .before .before .before .before .before in
+    let st = two .before .before .before .before .before .before .before .before .before in
+    record { fits = omega (arith, two .if2 .left, st .fits .budget .fits) }
 
 loop-less : tie.Need-loop-less Inv-loop μ-loop
-loop-less c = omega (arith, c .before .before .before .before .before .before .before .before .before .before .if2 .left)
+loop-less c = omega (arith, c .before .before .before .before .before .before .before .if2 .left)
 
 loop-again : tie.Need-loop-again Inv-loop μ-loop
 loop-again c =
-    let at = c .before .before .before .before .before .before .before .before .before .before .before .before .before in
-    let d = c .before .before .before .before .before .before in
-    let w = c .before .before .before .before .write-record .ensures in
-    goes-on (at .loop .inv) (at .before .before .cell-count .ensures) (at .before .before .before .before .before .before .pre .2) (c .before .before .before .before .before .before .before .before .before .before .before .if1 .left) (c .before .before .before .before .before .before .before .before .before .before .if2 .left) (c .before .before .before .before .before .before .before .before .before .reach .ensures)
-    (d .before .cell-at .ensures) (d .turn .ensures) (w .0) (w .1) (c .if3 .left)
+    let w = c .before .before .before .before in
+    let one = w .before .before .before .before in
+    let at = one .before .before in
+    goes-on (at .loop .inv) (at .before .before .cell-count .ensures) (at .before .before .before .before .before .before .pre .2) (one .if1 .left) (w .before .before .before .if2 .left)
+    (w .before .before .step .ensures) (w .write-record .ensures .0) (w .write-record .ensures .1) (c .if3 .left)
 
 same-length : tie.Need-same-length Inv-loop μ-loop
 same-length c = c .before .before .loop .inv .size
@@ -74,15 +69,17 @@ returns-2 : tie.Need-returns-2 Inv-loop μ-loop
 returns-2 c = budget-used (c .before .before .before .loop .inv) (c .before .before .before .before .before .cell-count .ensures) (c .before .if1 .left) (c .if2 .taken)
 
 same-length-3 : tie.Need-same-length-3 Inv-loop μ-loop
-same-length-3 c = c .before .before .before .before .write-record .kept .0 ∙ c .before .before .before .before .before .before .before .before .before .before .before .before .before .loop .inv .size
+same-length-3 c =
+    let w = c .before .before .before .before in
+    w .write-record .kept .0 ∙ w .before .before .before .before .before .before .loop .inv .size
 
 returns-3 : tie.Need-returns-3 Inv-loop μ-loop
 returns-3 c =
-    let at = c .before .before .before .before .before .before .before .before .before .before .before .before .before in
-    let d = c .before .before .before .before .before .before in
-    let w = c .before .before .before .before .write-record .ensures in
-    stopped (at .loop .inv) (at .before .before .cell-count .ensures) (at .before .before .before .before .before .before .pre .2) (c .before .before .before .before .before .before .before .before .before .before .before .if1 .left) (c .before .before .before .before .before .before .before .before .before .before .if2 .left) (c .before .before .before .before .before .before .before .before .before .reach .ensures)
-    (d .before .cell-at .ensures) (d .turn .ensures) (w .0) (w .1) (c .if3 .taken)
+    let w = c .before .before .before .before in
+    let one = w .before .before .before .before in
+    let at = one .before .before in
+    stopped (at .loop .inv) (at .before .before .cell-count .ensures) (at .before .before .before .before .before .before .pre .2) (one .if1 .left) (w .before .before .before .if2 .left)
+    (w .before .before .step .ensures) (w .write-record .ensures .0) (w .write-record .ensures .1) (c .if3 .taken)
 
 pub course-spec : {M : Type 1} → statement M
 course-spec =
@@ -93,9 +90,7 @@ course-spec =
     cell-count-requires
     started-requires
     loop-holds
-    reach-requires
-    cell-at-requires
-    turn-requires
+    step-requires
     write-record-requires
     add-turns
     loop-less

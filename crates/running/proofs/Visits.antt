@@ -1,0 +1,145 @@
+-- The places of a run, turn by turn: those still to come, behind the ones in the buffer, give the whole.
+-- Assumes nothing.
+use mathlib.Core.Path.{_≡_, refl, sym, ap, _∙_}
+use mathlib.Core.Bool.{true, false}
+use mathlib.Core.List.{List, [], _∷_, _++_, append-assoc, append-nil}
+use Prim.Native.Nat.{ℕ, zero, suc, _+_, _*_, _-_, _≤_, _<_}
+use native.Mathlib.Nat.{sub-zero}
+use native.Mathlib.Numerals.{add-one}
+use native.Mathlib.Omega.{arith}
+use borrow.Author.Tests.{le-leb, lt-leb}
+use lib.ListN.{length, take, drop, take-append-drop}
+use lib.Seq.{sets, length-sets, length-take-le, drop-drop}
+use Rattle.numbers.specs.Bytes.{bytes}
+use Rattle.numbers.specs.Tests.{joined}
+use Rattle.numbers.proofs.Laws.{length-bytes}
+use Rattle.image.specs.Layout.{cellCount, startValues}
+use Rattle.machine.specs.declared.Machine.{Machine}
+use Rattle.machine.specs.declared.Event.{Event}
+use Rattle.machine.specs.Turn.{startMachine}
+use Rattle.machine.specs.Events.{eventCount}
+use Rattle.machine.specs.Code.{Inputs}
+use Rattle.machine.proofs.Inputs.{inputs-start}
+use Rattle.running.specs.declared.Stepped.{Stepped}
+use Rattle.running.specs.Courses.{cellActs}
+use Rattle.running.specs.Visits.{visitsFrom, imageVisits, visitBytes, visitsOver}
+use Rattle.running.specs.Code.{eventsFrom, SteppedBy, VisitedAs}
+use Rattle.running.proofs.Scripts.{events-all}
+use Rattle.running.proofs.Courses.{take-written, drop-written}
+
+-- The places from turn t on, with the events from number k on.
+module _ (s script : List ℕ) (budget : ℕ) where
+  abbrev rest : ℕ → ℕ → Machine → List ℕ
+  rest t k m = visitsFrom (cellActs s) (cellCount s) (budget - t) t (eventsFrom script k) m
+
+  past-by : (left t : ℕ) (es : List Event) (m : Machine) → cellCount s ≤ m .next → visitsFrom (cellActs s) (cellCount s) left t es m ≡ []
+  unfolding visitsFrom
+  past-by zero t es m h = refl
+  past-by (suc left) t es m h = rw (le-leb (cellCount s) (m .next) h)
+
+  none-past : (t k : ℕ) (m : Machine) → cellCount s ≤ m .next → rest t k m ≡ []
+  none-past t k m h = past-by (budget - t) t (eventsFrom script k) m h
+
+  none-spent : (t k : ℕ) (m : Machine) → budget ≤ t → rest t k m ≡ []
+  unfolding visitsFrom
+  none-spent t k m l = let e : budget - t ≡ 0 = omega arith in rw e
+
+  -- One turn is taken.
+  module _ (t k : ℕ) (m : Machine) (h : m .next < cellCount s) (l : t < budget) {r : Stepped} (er : SteppedBy s (cellCount s) script t k m r) where
+    visit-stopped : r .turned .stops ≡ true → rest t k m ≡ m .next ∷ []
+    unfolding visitsFrom
+    visit-stopped e =
+        let n : budget - t ≡ suc (budget - (t + 1)) = omega arith in
+        rw (n, lt-leb (cellCount s) (m .next) h, ← er .turned, e)
+
+    visit-goes : r .turned .stops ≡ false → rest t k m ≡ m .next ∷ rest (t + 1) (r .left) (r .turned .machine)
+    unfolding visitsFrom
+    visit-goes e =
+        let n : budget - t ≡ suc (budget - (t + 1)) = omega arith in
+        rw (n, lt-leb (cellCount s) (m .next) h, ← er .turned, e, add-one t, er .left)
+
+-- The buffer has the places of t turns, and behind them what it had at the start, which is `b₀`; with the places still to come they give all.
+pub record Marked (all b₀ b : List ℕ) (t : ℕ) (left : List ℕ) : Type 0 where
+  pub inside : 2 * t ≤ length b
+  pub behind : drop (2 * t) b ≡ drop (2 * t) b₀
+  pub counted : t + length left ≡ length all
+  pub whole : take (2 * t) b ++ visitBytes left ≡ visitBytes all
+
+-- None is to come.
+all-marked : {all b₀ b : List ℕ} {t : ℕ} → Marked all b₀ b t [] → VisitedAs all t b₀ b
+unfolding visitBytes joined visitsOver
+all-marked {all} {b₀} {b} {t} w =
+    let e : take (2 * t) b ≡ visitBytes all = sym (append-nil (take (2 * t) b)) ∙ w .whole in
+    let n : length (visitBytes all) ≡ 2 * t = sym (ap length e) ∙ length-take-le (2 * t) b (w .inside) in
+    record {
+      turns = let c = w .counted in omega arith;
+      buffer = rw (n, ← e, ← w .behind, take-append-drop);
+    }
+
+-- The next place is written.
+mark-more : {all b₀ b : List ℕ} {t n : ℕ} {left : List ℕ} → Marked all b₀ b t (n ∷ left) → 2 * t + 2 ≤ length b → Marked all b₀ (sets b (2 * t) (bytes 2 n)) (t + 1) left
+unfolding visitBytes joined
+mark-more {all} {b₀} {b} {t} {n} {left} w f =
+    let g : 2 * t + length (bytes 2 n) ≤ length b = rw (length-bytes 2 n) f in
+    let k : 2 * (t + 1) ≡ 2 * t + length (bytes 2 n) = rw (length-bytes 2 n) (omega arith) in
+    record {
+      inside = rw (length-sets b (2 * t) (bytes 2 n)) (omega arith);
+      behind = rw k (drop-written (2 * t) b (bytes 2 n) g ∙ sym (drop-drop (length (bytes 2 n)) (2 * t) b) ∙ ap (drop (length (bytes 2 n))) (w .behind) ∙ drop-drop (length (bytes 2 n)) (2 * t) b₀);
+      counted = let c = w .counted in omega arith;
+      whole = rw (k, take-written (2 * t) b (bytes 2 n) g, append-assoc) (w .whole);
+    }
+
+-- What holds before each turn t, with the events from number k on to come and the places of t turns in the buffer.
+pub record Passing (s script : List ℕ) (budget : ℕ) (b₀ b : List ℕ) (m : Machine) (t k : ℕ) : Type 0 where
+  pub turns : t ≤ budget
+  pub within : k ≤ eventCount script
+  pub inputs : Inputs (m .variables)
+  pub size : length b ≡ length b₀
+  pub marked : Marked (imageVisits s script budget) b₀ b t (rest s script budget t k m)
+
+module _ {s script : List ℕ} {budget : ℕ} {b₀ : List ℕ} where
+  -- Before the first turn.
+  pub passing : {m : Machine} → m ≡ startMachine (startValues s) → Passing s script budget b₀ b₀ m 0 0
+  unfolding imageVisits
+  passing e =
+      record {
+        turns = omega arith;
+        within = omega arith;
+        inputs = rw e (inputs-start (startValues s));
+        size = refl;
+        marked =
+            record {
+              inside = omega arith;
+              behind = refl;
+              counted = rw (e, sub-zero, events-all script) (omega arith);
+              whole = rw (e, sub-zero, events-all script);
+            };
+      }
+
+  module _ {b : List ℕ} {m : Machine} {t k : ℕ} (u : Passing s script budget b₀ b m t k) {cells : ℕ} (en : cells ≡ cellCount s) where
+    -- Turn 6: the next cell is past the last, or the budget is used.
+    pub visited-past : cells ≤ m .next → VisitedAs (imageVisits s script budget) t b₀ b
+    visited-past h = all-marked (rw (none-past s script budget t k m (omega arith)) at (u .marked))
+
+    pub visited-spent : budget ≤ t → VisitedAs (imageVisits s script budget) t b₀ b
+    visited-spent l = all-marked (rw (none-spent s script budget t k m l) at (u .marked))
+
+    -- One turn is taken, and its place is written.
+    module _ (room : 2 * budget ≤ length b₀) (h : m .next < cells) (l : t < budget) {r : Stepped} (er : SteppedBy s cells script t k m r)
+        {b′ : List ℕ} (eb : b′ ≡ sets b (2 * t) (bytes 2 (m .next))) where
+      more : (left : List ℕ) → rest s script budget t k m ≡ m .next ∷ left → Marked (imageVisits s script budget) b₀ b′ (t + 1) left
+      more left e = rw eb (mark-more (rw e at (u .marked)) (omega (arith, u .size)))
+
+      -- Turn 25: the run stops after the turn.
+      pub visited-stopped : r .turned .stops ≡ true → VisitedAs (imageVisits s script budget) (t + 1) b₀ b′
+      visited-stopped e = all-marked (more [] (visit-stopped s script budget t k m (omega arith) l (rw en at er) e))
+
+      pub passes-on : r .turned .stops ≡ false → Passing s script budget b₀ b′ (r .turned .machine) (t + 1) (r .left)
+      passes-on e =
+          record {
+            turns = omega arith;
+            within = er .within;
+            inputs = er .inputs;
+            size = rw eb (length-sets b (2 * t) (bytes 2 (m .next)) ∙ u .size);
+            marked = more (rest s script budget (t + 1) (r .left) (r .turned .machine)) (visit-goes s script budget t k m (omega arith) l (rw en at er) e);
+          }
