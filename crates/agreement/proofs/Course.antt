@@ -1,4 +1,4 @@
--- Demand 3: the run of an accepted text's image is the run of the text, followed line by line.
+-- Demand 3: the run of an accepted text's image is the run of the text, followed line by line; and so are its places.
 -- Assumes nothing.
 use mathlib.Core.Path.{_≡_, ap, _∙_}
 use mathlib.Core.Bool.{true}
@@ -14,10 +14,11 @@ use Rattle.machine.specs.declared.Event.{Event}
 use Rattle.machine.specs.Effects.{effect}
 use Rattle.machine.specs.Turn.{startMachine}
 use Rattle.machine.specs.Run.{runFrom}
+use Rattle.running.specs.Visits.{visitsFrom}
 use Rattle.translation.specs.Images.{imageOf, image, accepted}
 use Rattle.translation.specs.Places.{lineAt, starts}
 use Rattle.agreement.proofs.Meaning.{effect-cell}
-use Rattle.agreement.proofs.Runs.{run-same}
+use Rattle.agreement.proofs.Runs.{run-same, visit-same}
 use Rattle.agreement.proofs.Sound.{Fine, fine}
 use Rattle.agreement.proofs.Words.{selected}
 use Rattle.agreement.proofs.Records.{cell-count, start-values}
@@ -44,6 +45,12 @@ module _ (xs : List Line) (f : Fine xs) where
       ap (λ (n : ℕ). runFrom (byCell (imageOf xs)) n left t es m) (cell-count xs f)
       ∙ run-same (byCell (imageOf xs)) (byLine xs) (count makesCell xs) same-act left t es m
 
+  pub same-places : (left t : ℕ) (es : List Event) (m : Machine)
+      → visitsFrom (byCell (imageOf xs)) (cellCount (imageOf xs)) left t es m ≡ visitsFrom (byLine xs) (count makesCell xs) left t es m
+  same-places left t es m =
+      ap (λ (n : ℕ). visitsFrom (byCell (imageOf xs)) n left t es m) (cell-count xs f)
+      ∙ visit-same (byCell (imageOf xs)) (byLine xs) (count makesCell xs) same-act left t es m
+
 -- An accepted text and its image: one run from any machine, one machine to start from, and so one course.
 module _ (text : List ℕ) (ok : accepted text ≡ true) where
   pub same-from : (left t : ℕ) (es : List Event) (m : Machine)
@@ -61,3 +68,12 @@ module _ (text : List ℕ) (ok : accepted text ≡ true) where
   same-course budget es =
       same-from budget 0 es (startMachine (startValues (image text)))
       ∙ ap (runFrom (byLine (said text)) (count makesCell (said text)) budget 0 es) same-start
+
+  -- the turns of both go by the same places
+  pub same-visits : (budget : ℕ) (es : List Event)
+      → visitsFrom (byCell (image text)) (cellCount (image text)) budget 0 es (startMachine (startValues (image text)))
+      ≡ visitsFrom (byLine (said text)) (count makesCell (said text)) budget 0 es (startMachine (starts (said text)))
+  unfolding image
+  same-visits budget es =
+      same-places (said text) (fine text ok) budget 0 es (startMachine (startValues (image text)))
+      ∙ ap (visitsFrom (byLine (said text)) (count makesCell (said text)) budget 0 es) same-start

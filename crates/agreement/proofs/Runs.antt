@@ -1,4 +1,4 @@
--- Two ways to find what the next statement does give one run, where they agree on every machine that is not past the last cell.
+-- Two ways to find what the next statement does give one run and one row of places, where they agree on every machine that is not past the last cell.
 -- Assumes nothing.
 use mathlib.Core.Path.{_≡_, refl, _∙_}
 use mathlib.Core.Bool.{Bool, true, false, cond}
@@ -14,6 +14,7 @@ use Rattle.machine.specs.declared.Event.{Event}
 use Rattle.machine.specs.Turn.{turn, inMotion}
 use Rattle.machine.specs.Events.{happens, arrivedBy}
 use Rattle.machine.specs.Run.{runFrom, reach}
+use Rattle.running.specs.Visits.{visitsFrom}
 
 -- an event leaves the next cell
 arrived-next : (k : Motion) (m : Machine) → arrivedBy k m .next ≡ m .next
@@ -55,3 +56,13 @@ module _ (f g : Machine → Effect) (cells : ℕ) (agree : (m : Machine) → m .
       let inside : reach t es m .machine .next < cells = rw (reach-next t es m) (leb-false cells (m .next) e) in
       rw (agree (reach t es m .machine) inside)
       (rw (run-same left (suc t) (reach t es m .left) (turn cells (g (reach t es m .machine)) (reach t es m .machine) .machine))))
+
+  pub visit-same : (left t : ℕ) (es : List Event) (m : Machine) → visitsFrom f cells left t es m ≡ visitsFrom g cells left t es m
+  unfolding visitsFrom
+  visit-same zero t es m = refl
+  visit-same (suc left) t es m =
+      cond-same (leb cells (m .next)) _ _ _
+      (λ e.
+      let inside : reach t es m .machine .next < cells = rw (reach-next t es m) (leb-false cells (m .next) e) in
+      rw (agree (reach t es m .machine) inside)
+      (rw (visit-same left (suc t) (reach t es m .left) (turn cells (g (reach t es m .machine)) (reach t es m .machine) .machine))))
