@@ -3,3 +3,4 @@ pub mod Accepted
 pub mod Parts
 pub mod Writing
 pub mod Whole
+pub mod Seeking

@@ -1,20 +1,24 @@
 -- What the code's loops do, step by step. No demand reaches this; proofs/ ties it to the paper's definitions.
 -- Assumes nothing.
-use mathlib.Core.Bool.{cond}
+use mathlib.Core.Path.{_≡_}
+use mathlib.Core.Bool.{Bool, cond}
 use mathlib.Core.List.{List, [], _∷_, _++_}
-use Prim.Native.Nat.{ℕ, _+_, _≤_}
+use Prim.Native.Nat.{ℕ, _+_, _-_, _≤_}
 use lib.Dec.{eqb}
-use lib.ListN.{length}
+use lib.ListN.{length, take, drop}
 use lib.Seq.{sets}
 use Rattle.numbers.specs.Bytes.{bytes}
 use Rattle.numbers.specs.Bits.{digits32}
 use Rattle.program.specs.Code.{nameOf}
+use Rattle.text.specs.Lines.{lines}
 use Rattle.text.specs.Forms.{Line}
-use Rattle.text.specs.Faults.{placeOf, numberOf}
+use Rattle.text.specs.Faults.{said, placeOf, numberOf}
 use Rattle.text.specs.Code.{resolved}
 use Rattle.text.specs.declared.forms.Reading.{Reading}
 use Rattle.image.specs.Layout.{cellBytes}
 use Rattle.translation.specs.declared.Places.{Places}
+use Rattle.translation.specs.declared.Placed.{Placed}
+use Rattle.translation.specs.Places.{lineOf, lineBytes}
 
 -- Each x puts f x, g x and h x into the buffer, behind what the ones before it put there.
 module _ {A : Type 0} (f g h : A → List ℕ) where
@@ -50,3 +54,16 @@ pub record Within (most : ℕ) (p : Places) : Type 0 where
   pub cell : p .cell ≤ most
   pub label : p .label ≤ most
   pub variable : p .variable ≤ most
+
+-- One less where the test holds, and never below 0.
+unfoldable pub fewer : Bool → ℕ → ℕ
+fewer b n = cond b (n - 1) n
+
+-- The line of a text that makes the cell with this number: its number, its bytes in the text, and the lines in front of it. All is 0 where there is none.
+pub record PlacedAt (s : List ℕ) (place : ℕ) (r : Placed) : Type 0 where
+  pub line : r .line ≡ lineOf (said s) place
+  pub span : take (r .end - r .start) (drop (r .start) s) ≡ lineBytes s (r .line)
+  pub before : lines (take (r .start) s) ≡ take (r .line - 1) (lines s)
+  pub ordered : r .start ≤ r .end
+  pub within : r .end ≤ length s
+  pub none : r .line ≡ 0 → (r .start ≡ 0) × (r .end ≡ 0)

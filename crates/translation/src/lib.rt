@@ -9,7 +9,7 @@ ghost use Rattle.text.specs.Code.{placed, written, operandWith, resolved};
 ghost use Rattle.names.specs.Code.{Keyed, KeyOperand, countsOf};
 ghost use Rattle.image.specs.Layout.{imageLength};
 ghost use Rattle.translation.specs.Images.{cellPart, labelPart, variablePart, imageOf};
-ghost use Rattle.translation.specs.Code.{emitFrom, emittedBy, placesBy, Within};
+ghost use Rattle.translation.specs.Code.{emitFrom, emittedBy, placesBy, Within, fewer, PlacedAt};
 use names::Counts;
 use program::Cell;
 use program::Operand;
@@ -178,4 +178,54 @@ pub fn write_image(s: &[u8], buffer: &mut [u8], counts: Counts)
     emit_lines(s, buffer, places);
     let trailer = image::variable_place(cells, labels, variables);
     image::write_trailer(buffer, trailer, cells, labels, variables);
+}
+
+// A line of a text, counted from 1, and where its bytes start and end, without its ending. All is 0 where there is no such line.
+pub struct Placed {
+    pub line: usize,
+    pub start: usize,
+    pub end: usize,
+}
+
+// One less where the test holds, and never below 0.
+fn fewer_if(test: bool, n: u16) -> u16
+    ensures { λ r. ⌜ r ≡ fewer test n ⌝ }
+{
+    if test {
+        if n == 0 {
+            return 0;
+        }
+        return n - 1;
+    }
+    n
+}
+
+// The line that makes the cell with this number, sought from the front of the text.
+pub fn line_of(s: &[u8], place: u16) -> Placed
+    ensures { λ r. ⌜ PlacedAt (now (s .entry)) place r ⌝ }
+{
+    let mut left = place;
+    let mut line: usize = 1;
+    let mut at: usize = 0;
+    while at < s.len() {
+        let span = text::line_at(s, at);
+        let end = span.end;
+        let reading = text::read_line(&s[at..end]);
+        let kind = reading.kind;
+        if (kind == Reading::ACTS) & (left == 0) {
+            return Placed {
+                line,
+                start: at,
+                end,
+            };
+        }
+        left = fewer_if(kind == Reading::ACTS, left);
+        line += 1;
+        at = span.next;
+    }
+    Placed {
+        line: 0,
+        start: 0,
+        end: 0,
+    }
 }
