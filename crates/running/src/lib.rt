@@ -140,7 +140,7 @@ pub fn course(image: &[u8], events: &[u8], budget: u32, records: &mut [u8]) -> E
 }
 
 // How many bytes a place takes among the places of a run.
-const PLACE_BYTES: usize = 2;
+pub const PLACE_BYTES: usize = 2;
 
 // The places of an image's run: the machine's next cell at each turn, one behind the other to the front of the buffer. How many turns there were is handed back.
 pub fn visit(image: &[u8], events: &[u8], budget: u32, visits: &mut [u8]) -> usize

@@ -105,6 +105,13 @@ module _ (text room : List ℕ) {t : Translated} {after : List ℕ} (a : Transla
           let f = q .fits in
           omega (arith, length-append (image text) (drop (length (image text)) room), length-drop (length (image text)) room)
 
+  -- where the text is accepted they are its image
+  pub whole : Accepts text (length room) → take (t .length) after ≡ image text
+  whole q =
+      ap (λ (k : ℕ). take k after) (ap (λ (x : Translated). x .length) (a .answers ∙ translated-fits text room (q .ok) (q .fits)))
+      ∙ ap (λ (l : List ℕ). take (length (image text)) l) (a .leaves ∙ into-fits text room (q .ok) (q .fits))
+      ∙ take-at (image text) (drop (length (image text)) room) (length (image text)) refl
+
   module _ (script : List ℕ) (budget : ℕ) (buffer : List ℕ) {s : List ℕ} {r : Ran} {records : List ℕ} (e : s ≡ take (t .length) after) (b : Runs s script budget buffer r records) where
     pub tries : Tries text room script budget buffer (record { translated = t; ran = r }) after records
     tries =
@@ -118,17 +125,10 @@ module _ (text room : List ℕ) {t : Translated} {after : List ℕ} (a : Transla
         none : (translated text (length room) .length ≡ 0) → s ≡ []
         none l = e ∙ ap (λ (k : ℕ). take k after) (ap (λ (x : Translated). x .length) (a .answers) ∙ l)
 
-        whole : Accepts text (length room) → s ≡ image text
-        whole q =
-            e
-            ∙ ap (λ (k : ℕ). take k after) (ap (λ (x : Translated). x .length) (a .answers ∙ translated-fits text room (q .ok) (q .fits)))
-            ∙ ap (λ (l : List ℕ). take (length (image text)) l) (a .leaves ∙ into-fits text room (q .ok) (q .fits))
-            ∙ take-at (image text) (drop (length (image text)) room) (length (image text)) refl
-
         go-ran : Answer text (length room) → ran s script budget (length buffer) ≡ triedAs text (length room) script budget (length buffer)
         go-ran (refused h l) = ap (λ (x : List ℕ). ran x script budget (length buffer)) (none l) ∙ empty-ran script budget (length buffer) ∙ sym (tried-refused text room h script budget (length buffer))
-        go-ran (taken q) = ap (λ (x : List ℕ). ran x script budget (length buffer)) (whole q) ∙ image-ran text (q .ok) script budget (length buffer) ∙ sym (tried-taken text room q script budget (length buffer))
+        go-ran (taken q) = ap (λ (x : List ℕ). ran x script budget (length buffer)) (e ∙ whole q) ∙ image-ran text (q .ok) script budget (length buffer) ∙ sym (tried-taken text room q script budget (length buffer))
 
         go-records : Answer text (length room) → ranInto s script budget buffer ≡ triedInto text (length room) script budget buffer
         go-records (refused h l) = ap (λ (x : List ℕ). ranInto x script budget buffer) (none l) ∙ empty-into script budget buffer ∙ sym (left-refused text room h script budget buffer)
-        go-records (taken q) = ap (λ (x : List ℕ). ranInto x script budget buffer) (whole q) ∙ image-into text (q .ok) script budget buffer ∙ sym (left-taken text room q script budget buffer)
+        go-records (taken q) = ap (λ (x : List ℕ). ranInto x script budget buffer) (e ∙ whole q) ∙ image-into text (q .ok) script budget buffer ∙ sym (left-taken text room q script budget buffer)
