@@ -23,3 +23,4 @@ pub mod Pieces
 pub mod Image
 pub mod Clean
 pub mod Back
+pub mod Keys

@@ -1,0 +1,51 @@
+-- `variable_key` meets its contract: the name of the table, or the field of the record at its place.
+-- Assumes nothing.
+use mathlib.Core.Path.{_∙_}
+use borrow.Author.Needs.{needs}
+use native.Mathlib.Omega.{arith}
+use Rattle.image.specs.Layout.{variablePlace}
+use Rattle.listing.proofs.Keys.{paper-key, record-key}
+use Rattle.listing.proofs.variable_key.Statement.{statement}
+use Rattle.listing.proofs.variable_key.Tie as tie
+
+variable-key-requires : tie.Need-variable-key-requires
+variable-key-requires c κs = search needs
+
+returns : tie.Need-returns
+returns c = c .variable-key .ensures ∙ paper-key _ _ (c .before .if1 .taken)
+
+cell-count-requires : tie.Need-cell-count-requires
+cell-count-requires c κs = search needs
+
+label-count-requires : tie.Need-label-count-requires
+label-count-requires c κs = search needs
+
+cast-variable-place : tie.Need-cast-variable-place
+cast-variable-place c = search needs
+
+variable-place-requires : tie.Need-variable-place-requires
+variable-place-requires c κs = search needs
+
+read2-requires : tie.Need-read2-requires
+read2-requires c κs = search needs
+
+returns-2 : tie.Need-returns-2
+unfolding variablePlace
+returns-2 c =
+    let p = c .before in
+    let l = p .before in
+    rw (c .read2 .ensures, p .variable-place .ensures, l .label-count .ensures, l .before .cell-count .ensures)
+    (record-key _ _ (l .before .before .if1 .left))
+
+pub variable-key-spec : {M : Type 1} → statement M
+variable-key-spec =
+    tie.close
+    (tie.spec
+    variable-key-requires
+    returns
+    cell-count-requires
+    label-count-requires
+    cast-variable-place
+    variable-place-requires
+    read2-requires
+    returns-2)
