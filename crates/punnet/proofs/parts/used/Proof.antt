@@ -1,0 +1,58 @@
+-- `used` stays within the line.
+-- Assumes nothing.
+use Prim.Native.Nat.{_≤_}
+use lib.ListN.{length}
+use borrow.Author.Needs.{needs}
+use native.Mathlib.Omega.{arith}
+use Rattle.io.proofs.Counting.{counts}
+use Rattle.punnet.proofs.parts.used.Statement.{statement}
+use Rattle.punnet.proofs.parts.used.Tie as tie
+
+abbrev Inv-loop : tie.InvT-loop
+Inv-loop line count₀ count = count ≤ length line
+
+abbrev μ-loop : tie.MeasureT-loop
+μ-loop line count₀ count = count
+
+loop-holds : tie.Need-loop-holds Inv-loop μ-loop
+loop-holds c = search needs
+
+sub-is-blank : tie.Need-sub-is-blank Inv-loop μ-loop
+sub-is-blank c = search needs
+
+shared-slice-read-is-blank : tie.Need-shared-slice-read-is-blank Inv-loop μ-loop
+shared-slice-read-is-blank c = search needs
+
+is-blank-requires : tie.Need-is-blank-requires Inv-loop μ-loop
+is-blank-requires c κs = search needs
+
+returns : tie.Need-returns Inv-loop μ-loop
+returns c = counts _ _ (omega arith)
+
+sub-count : tie.Need-sub-count Inv-loop μ-loop
+sub-count c = search needs
+
+loop-less : tie.Need-loop-less Inv-loop μ-loop
+loop-less c = search needs
+
+loop-again : tie.Need-loop-again Inv-loop μ-loop
+loop-again c = search needs
+
+returns-2 : tie.Need-returns-2 Inv-loop μ-loop
+returns-2 c = search needs
+
+pub used-spec : {M : Type 1} → statement M
+used-spec =
+    tie.close
+    (tie.spec
+    Inv-loop
+    μ-loop
+    loop-holds
+    sub-is-blank
+    shared-slice-read-is-blank
+    is-blank-requires
+    returns
+    sub-count
+    loop-less
+    loop-again
+    returns-2)

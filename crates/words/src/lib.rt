@@ -1,0 +1,302 @@
+// The bench's words: what each number of an answer means, what the tool says, and how it is used. A table of lines, and a text.
+
+// The kinds of line, by the second letter of their first word.
+pub const REFUSAL: u8 = b'e';
+
+pub const ERROR: u8 = b'r';
+
+pub const END: u8 = b'n';
+
+pub const HINT: u8 = b'i';
+
+pub const SCRIPT: u8 = b'c';
+
+pub const USAGE: u8 = b's';
+
+pub const COMMAND: u8 = b'o';
+
+pub const KIND_OF_EVENT: u8 = b'v';
+
+pub const KIND_OF_RECORD: u8 = b't';
+
+pub const MOTION: u8 = b'x';
+
+pub const PART: u8 = b'a';
+
+// The parts of what the tool says, by their numbers.
+pub const PUNNET: u32 = 1;
+
+pub const STANDARD_OUTPUT: u32 = 2;
+
+pub const CELLS: u32 = 3;
+
+pub const LABELS: u32 = 4;
+
+pub const VARIABLES: u32 = 5;
+
+pub const EVENTS: u32 = 6;
+
+pub const HEADER: u32 = 7;
+
+pub const EVENT_ROW: u32 = 8;
+
+pub const TURNS: u32 = 9;
+
+pub const RECORDS: u32 = 10;
+
+pub const POSITION: u32 = 11;
+
+pub const OUTPUTS: u32 = 12;
+
+pub const CHANGED: u32 = 13;
+
+pub const START: u32 = 14;
+
+pub const COLUMN: u32 = 15;
+
+pub const EVENT: u32 = 16;
+
+pub const TURNS_ASKED: u32 = 17;
+
+// The bytes of the table, those of its lines for people, its lines, and the bytes of the longest line with its end.
+const SIZE: usize = 3288;
+
+pub const FOR_PEOPLE: usize = 2609;
+
+const LINE_COUNT: usize = 87;
+
+pub const LONGEST: usize = 76;
+
+const LINES: [u8; SIZE] = *b"refusal 1: the text has more than 16,384 bytes
+refusal 2: the line has more than 64 bytes
+refusal 3: a byte or a form that no statement has
+refusal 4: a number outside -2,147,483,647 to 2,147,483,647
+refusal 5: the name is a mnemonic or a variable of the language
+refusal 6: the name is declared on a line before this one
+refusal 7: one cell, label or variable too many (at most 256, 160 and 32)
+refusal 8: name not declared, or first declared as the other kind
+refusal 9: the variable can only be read
+refusal 10: the image buffer is shorter than the image
+refusal 21: the image is shorter than 16 bytes or longer than 5,008
+refusal 22: the image is not of edition 1
+refusal 23: place, counts and length in the trailer do not fit the image
+refusal 24: a cell that no text gives
+refusal 25: a name record that no text gives
+refusal 32: events that are not 12 bytes each, or more than 4,096
+refusal 33: a bad event, or a turn below that of the event before
+refusal 34: more than 4,096 turns
+refusal 35: the record buffer is shorter than 12 bytes a turn
+error 101: the result is outside -2,147,483,647 to 2,147,483,647
+error 102: division by zero
+error 103: the value is outside the range of the variable, of H or of SL
+error 104: a call with eight return places kept
+error 105: a return with no place kept
+error 106: a move while the axis is moving
+end 1: past the last statement
+end 2: stopped, no return place was free for the handler
+end 3: every turn that was asked for is used
+hint 1: a TAB; only blanks may stand between words
+hint 2: a carriage return that no line feed follows
+hint 3: a control character
+hint 4: not a plain character; marks pasted from a manual are often curly
+hint 5: a small letter; statements are in capitals
+hint 6: a quote; PR takes one number or one variable
+hint 7: not a comment mark; a comment starts with '
+hint 8: a word of more than two characters
+hint 9: a number of more than ten digits
+hint 10: no statement begins so; leave out setup and commands such as PG
+hint 11: a variable without = behind it
+hint 12: the parts of the line make no statement
+script 1: no event; TURN arrived, TURN input N VALUE or TURN position VALUE
+script 2: a number that does not fit in an event
+usage 1: wants TEXT [EVENTS] [TURNS]
+usage 2: wants TEXT IMAGE
+usage 3: wants IMAGE
+usage 4: wants IMAGE EVENTS TURNS [RECORDS]
+usage 5: wants SCRIPT EVENTS
+usage 6: no such command; punnet help lists them
+usage 7: not a number of turns
+usage 8: longer than a script may be, 262,143 bytes
+usage 9: holds what was read; give another name to write to
+usage 10: not a plain file, and so not written
+command 1: try
+command 2: translate
+command 3: check
+command 4: run
+command 5: events
+command 6: words
+command 7: help
+event 1: input
+event 2: arrived
+event 3: position
+item 1: output 
+item 2: move to 
+item 3: move by 
+item 4: slew at 
+item 5: print 
+axis 0: , still
+axis 1: , moving to 
+axis 2: , slewing at 
+part 1: punnet: 
+part 2: standard output
+part 3:  bytes, cells 
+part 4: , labels 
+part 5: , variables 
+part 6: events 
+part 7:      turn   line  statement                 what it recorded
+part 8: event: 
+part 9: turns: 
+part 10: records: 
+part 11: position: 
+part 12: outputs:
+part 13: changed: 
+part 14:  (start 
+part 15:     column 
+part 16: event 
+part 17:  turns: 
+";
+
+pub const HELP_SIZE: usize = 1364;
+
+const HELP: [u8; HELP_SIZE] = *b"punnet: MCode programs tried on the bench before a motor sees them
+
+  punnet try TEXT [EVENTS] [TURNS]
+      translate a text, run it, and tell what happened turn by turn
+      example: punnet try feeder.mc feeder.events
+  punnet translate TEXT IMAGE
+      write the image of a text
+      example: punnet translate feeder.mc feeder.image
+  punnet check IMAGE
+      tell whether a text stands behind an image
+      example: punnet check feeder.image
+  punnet run IMAGE EVENTS TURNS [RECORDS]
+      run an image, tell what it recorded, and keep the records in a file
+      example: punnet run feeder.image feeder.events 200 feeder.records
+  punnet events SCRIPT EVENTS
+      write the events of a script in 12 bytes each
+      example: punnet events feeder.events feeder.bytes
+  punnet words
+      list every number that an answer can have, with its words
+      example: punnet words
+  punnet help
+      show this text
+      example: punnet help
+
+A script has an event on each line; ' starts a comment:
+      3 arrived          in turn 3 the move arrives
+      5 input 2 1        in turn 5 input 2 becomes 1
+      7 position -100    in turn 7 the position becomes -100
+EVENTS is a script or its bytes, or - for no event. TURNS is 0 to 4096;
+try takes 4096 where none is given. Turns count from 0.
+The status is 0 accepted or run, 1 refused, 2 usage or file trouble.
+";
+
+// The byte of the table at a place; an end of line past the table.
+pub fn letter(at: usize) -> u8 {
+    if at < SIZE {
+        return LINES[at];
+    }
+    b'\n'
+}
+
+// The byte of the table so many places behind one.
+pub fn letter_behind(start: usize, i: usize) -> u8 {
+    if SIZE <= start {
+        return b'\n';
+    }
+    if SIZE <= i {
+        return b'\n';
+    }
+    letter(start + i)
+}
+
+// The byte of the text on the tool's use at a place; an end of line past the text.
+pub fn help_letter(at: usize) -> u8 {
+    if at < HELP_SIZE {
+        return HELP[at];
+    }
+    b'\n'
+}
+
+// The place behind the first such byte from here on; the table's size where there is none.
+fn place_behind(byte: u8, at: usize) -> usize {
+    let mut i = at;
+    while i < SIZE {
+        if letter(i) == byte {
+            return i + 1;
+        }
+        i += 1;
+    }
+    SIZE
+}
+
+// A number of up to three digits with one more, where the character is a digit.
+fn with_digit(number: u32, character: u8) -> u32 {
+    if character < b'0' {
+        return number;
+    }
+    if b'9' < character {
+        return number;
+    }
+    number % 100 * 10 + ((character - b'0') as u32)
+}
+
+// The number that stands before the colon in the line at this place.
+fn number_of_line(at: usize) -> u32 {
+    let mut number: u32 = 0;
+    let mut i = at;
+    while i < SIZE {
+        let character = letter(i);
+        if character == b':' {
+            return number;
+        }
+        number = with_digit(number, character);
+        i += 1;
+    }
+    number
+}
+
+// Where the line for a number of a kind begins; the table's size where there is none.
+pub fn line_for(kind: u8, number: u32) -> usize {
+    let mut at: usize = 0;
+    for _ in 0..LINE_COUNT {
+        if (letter_behind(at, 1) == kind) & (number_of_line(at) == number) {
+            return at;
+        }
+        at = place_behind(b'\n', at);
+    }
+    SIZE
+}
+
+// Where the meaning begins in a line, behind the colon and the space.
+fn meaning_of_line(at: usize) -> usize {
+    place_behind(b' ', place_behind(b':', at))
+}
+
+pub fn meaning_for(kind: u8, number: u32) -> usize {
+    meaning_of_line(line_for(kind, number))
+}
+
+// Whether a line from this place on is a word.
+fn is_word(word: &[u8], at: usize) -> bool {
+    let mut i: usize = 0;
+    while i < word.len() {
+        if letter_behind(at, i) != word[i] {
+            return false;
+        }
+        i += 1;
+    }
+    letter_behind(at, i) == b'\n'
+}
+
+// The number of the line of a kind that means a word; 0 where there is none.
+pub fn number_for(kind: u8, word: &[u8]) -> u32 {
+    let mut at: usize = 0;
+    for _ in 0..LINE_COUNT {
+        if (letter_behind(at, 1) == kind) & is_word(word, meaning_of_line(at)) {
+            return number_of_line(at);
+        }
+        at = place_behind(b'\n', at);
+    }
+    0
+}
