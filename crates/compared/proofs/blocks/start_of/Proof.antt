@@ -1,0 +1,69 @@
+-- `start_of` is safe and ends: each turn leaves fewer bytes of the input.
+-- Assumes nothing.
+use Prim.Native.Nat.{_-_}
+use lib.ListN.{length}
+use borrow.Author.Needs.{needs}
+use Rattle.compared.proofs.blocks.start_of.Statement.{statement}
+use Rattle.compared.proofs.blocks.start_of.Tie as tie
+use Rattle.compared.proofs.words.line_at.Reads as line-at-reads
+use Rattle.compared.proofs.words.next_line.Reads as next-line-reads
+use Rattle.compared.proofs.words.rest.Reads as rest-reads
+use Rattle.compared.proofs.words.same.Reads as same-reads
+use Rattle.compared.proofs.words.starts.Reads as starts-reads
+
+abbrev Inv-loop : tie.InvT-loop
+Inv-loop input name at₀ t5 at = Unit {0}
+
+abbrev μ-loop : tie.MeasureT-loop
+μ-loop input name at₀ t5 at = length input - at
+
+loop-holds : tie.Need-loop-holds Inv-loop μ-loop
+loop-holds c = search needs
+
+line-at-requires : tie.Need-line-at-requires Inv-loop μ-loop
+line-at-requires c κs = search needs
+
+next-line-requires : tie.Need-next-line-requires Inv-loop μ-loop
+next-line-requires c κs = search needs
+
+slice-aggregate-starts : tie.Need-slice-aggregate-starts Inv-loop μ-loop
+slice-aggregate-starts c = search needs
+
+starts-requires : tie.Need-starts-requires Inv-loop μ-loop
+starts-requires c κs = search needs
+
+rest-requires : tie.Need-rest-requires Inv-loop μ-loop
+rest-requires c κs = search needs
+
+same-requires : tie.Need-same-requires Inv-loop μ-loop
+same-requires c κs = search needs
+
+returns : tie.Need-returns Inv-loop μ-loop
+returns c = search needs
+
+loop-less : tie.Need-loop-less Inv-loop μ-loop
+loop-less c = search needs
+
+loop-again : tie.Need-loop-again Inv-loop μ-loop
+loop-again c = search needs
+
+returns-2 : tie.Need-returns-2 Inv-loop μ-loop
+returns-2 c = search needs
+
+pub start-of-spec : {M : Type 1} → statement M
+start-of-spec =
+    tie.close
+    (tie.spec
+    Inv-loop
+    μ-loop
+    loop-holds
+    line-at-requires
+    next-line-requires
+    slice-aggregate-starts
+    starts-requires
+    rest-requires
+    same-requires
+    returns
+    loop-less
+    loop-again
+    returns-2)
