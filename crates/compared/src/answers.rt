@@ -6,117 +6,69 @@ use crate::buffer;
 use crate::buffer::Buffer;
 use crate::described;
 use crate::described::FILLER;
-use crate::tally::Tally;
 use crate::words;
-use crate::words::Parsed;
 use libc::STDOUT_FILENO;
 ghost use mathlib.Core.Path.{_≡_};
 ghost use lib.ListN.{length};
 
-const NONE: u8 = 0;
-
-const TRANSLATE: u8 = 1;
-
-const IMAGE: u8 = 2;
-
-const CHECK: u8 = 3;
-
-const RUN: u8 = 4;
-
-// A call whose numbers are not right.
-const WRONG: u8 = 5;
-
+// A call's kind is the number of its word.
 pub struct Call {
-    kind: u8,
-    budget: u64,
-    room: u64,
+    pub kind: usize,
+    pub budget: u64,
+    pub room: usize,
+}
+
+// Makes the call, writes the case's line, and says whether the answer is the one that was expected.
+pub fn agrees(name: &[u8], call: Call, text: &[u8], events: &[u8], wanted: &[u8]) -> bool {
+    let mut line = io::large_buffer();
+    let size = call.answer(text, events, &mut line);
+    io::write_all(STDOUT_FILENO, name);
+    compared(buffer::front(&line, size), wanted)
+}
+
+fn compared(got: &[u8], wanted: &[u8]) -> bool {
+    if words::same(got, wanted) {
+        io::write_all(STDOUT_FILENO, b": as expected\n");
+        return true;
+    }
+    io::write_all(STDOUT_FILENO, b": NOT as expected, got: ");
+    io::write_all(STDOUT_FILENO, got);
+    io::write_all(STDOUT_FILENO, b"; wanted: ");
+    io::write_all(STDOUT_FILENO, wanted);
+    io::write_all(STDOUT_FILENO, b"\n");
+    false
 }
 
 impl Call {
-    pub fn none() -> Call {
-        Call::plain(NONE)
-    }
-
-    fn plain(kind: u8) -> Call {
-        Call {
-            kind: kind,
-            budget: 0,
-            room: 0,
-        }
-    }
-
-    fn with(kind: u8, budget: Parsed, room: Parsed) -> Call {
-        if budget.right & room.right {
-            return Call {
-                kind: kind,
-                budget: budget.value,
-                room: room.value,
-            };
-        }
-        Call::plain(WRONG)
-    }
-
-    // The call that a line asks for.
-    pub fn of(line: &[u8]) -> Call {
-        let rest = words::rest(line);
-        let last = words::rest(rest);
-        if words::same(line, b"check") {
-            return Call::plain(CHECK);
-        }
-        if words::same(line, b"image") {
-            return Call::plain(IMAGE);
-        }
-        if words::starts(line, b"translate") {
-            return Call::with(TRANSLATE, words::number(b"0"), room(rest));
-        }
-        if words::starts(line, b"run") {
-            return Call::with(RUN, words::number(words::first(rest)), room(last));
-        }
-        Call::none()
-    }
-
-    pub fn is_some(self) -> bool {
-        self.kind != NONE
-    }
-
-    pub fn is_right(self) -> bool {
-        self.kind != WRONG
-    }
-
-    // Makes the call, and puts the answer down.
+    // Puts the answer down.
     fn answer(self, text: &[u8], events: &[u8], line: &mut Buffer) -> usize {
-        if self.kind == TRANSLATE {
-            return translate(text, self.room as usize, line);
+        let kind = self.kind;
+        match kind {
+            words::TRANSLATE => translate(text, self.room, line),
+            words::IMAGE => image(text, line),
+            words::CHECK => check(text, line),
+            _ => run(text, events, self.budget, self.room, line),
         }
-        if self.kind == IMAGE {
-            return image(text, line);
-        }
-        if self.kind == CHECK {
-            return check(text, line);
-        }
-        run(text, events, self.budget, self.room as usize, line)
     }
-}
-
-// The size of a buffer that is lent.
-fn room(word: &[u8]) -> Parsed {
-    words::number(word).at_most(65536)
 }
 
 fn translate(text: &[u8], room: usize, line: &mut Buffer) -> usize {
     let mut image = filled();
     let size = words::within(room, &image);
     let answer = bench::translate(text, &mut image[..size]);
-    let mut at = buffer::named(line, 0, b"number", answer.number as u64);
-    at = buffer::named(line, at, b"line", answer.line as u64);
-    at = buffer::named(line, at, b"length", answer.length as u64);
-    buffer::part(
+    let at = put_translated(
         line,
-        at,
-        b"changed",
-        described::changed(&image, answer.length),
-        0,
-    )
+        answer.number as u64,
+        answer.line as u64,
+        answer.length as u64,
+    );
+    described::put_changed(line, at, &image, answer.length)
+}
+
+fn put_translated(text: &mut Buffer, number: u64, line: u64, length: u64) -> usize {
+    let mut at = buffer::named(text, 0, b"number", b' ', number);
+    at = buffer::named(text, at, b"line", b' ', line);
+    buffer::named(text, at, b"length", b' ', length)
 }
 
 // The bytes of a text's image.
@@ -129,14 +81,18 @@ fn image(text: &[u8], line: &mut Buffer) -> usize {
 // Where an image is refused, so is its run.
 fn check(image: &[u8], line: &mut Buffer) -> usize {
     let answer = bench::check(image);
-    let at = buffer::named(line, 0, b"number", answer.number as u64);
+    let at = buffer::named(line, 0, b"number", b' ', answer.number as u64);
     if answer.number == 0 {
         return at;
     }
+    run_refused(image, line, at)
+}
+
+fn run_refused(image: &[u8], line: &mut Buffer, held: usize) -> usize {
     let mut records = filled();
     let ran = bench::run(image, b"", 1, &mut records);
-    let more = buffer::bytes(line, at, b", run:");
-    described::put(line, more, ran, &records)
+    let at = buffer::bytes(line, held, b", run:");
+    described::put(line, at, ran, &records)
 }
 
 // The run of a text's image.
@@ -154,36 +110,4 @@ fn filled() -> Buffer
     ensures { λ r. ⌜ 65536 ≡ length r ⌝ }
 {
     [FILLER; 65536]
-}
-
-// Makes a case's call, writes the case's line, and counts it.
-pub fn tried(
-    tally: Tally,
-    name: &[u8],
-    call: Call,
-    text: &[u8],
-    events: &[u8],
-    wanted: &[u8],
-) -> Tally {
-    let mut line = io::large_buffer();
-    let size = call.answer(text, events, &mut line);
-    let got = buffer::front(&line, size);
-    io::write_all(STDOUT_FILENO, name);
-    if words::same(got, wanted) {
-        io::write_all(STDOUT_FILENO, b": as expected\n");
-        return tally.one_more(true);
-    }
-    io::write_all(STDOUT_FILENO, b": NOT as expected, got: ");
-    io::write_all(STDOUT_FILENO, got);
-    io::write_all(STDOUT_FILENO, b"; wanted: ");
-    io::write_all(STDOUT_FILENO, wanted);
-    io::write_all(STDOUT_FILENO, b"\n");
-    tally.one_more(false)
-}
-
-// A case that says something wrong, or not all that it needs.
-pub fn not_tried(tally: Tally, name: &[u8]) -> Tally {
-    io::write_all(STDOUT_FILENO, name);
-    io::write_all(STDOUT_FILENO, b": NOT tried\n");
-    tally.one_more(false)
 }

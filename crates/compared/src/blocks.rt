@@ -6,7 +6,7 @@ use crate::words;
 
 // A line that starts a case or a block, and so ends the one before.
 pub fn is_head(line: &[u8]) -> bool {
-    words::starts(line, b"case") | words::starts(line, b"block")
+    words::kind(line) <= words::BLOCK
 }
 
 // Adds the lines of the block of that name.
@@ -23,12 +23,16 @@ fn start_of(input: &[u8], name: &[u8]) -> usize {
     let mut at = 0;
     while at < input.len() {
         let line = words::line_at(input, at);
-        at = words::next_line(input, at);
-        if words::starts(line, b"block") & words::same(words::rest(line), name) {
+        at = words::next(input, at, b'\n');
+        if is_block(line, name) {
             return at;
         }
     }
     at
+}
+
+fn is_block(line: &[u8], name: &[u8]) -> bool {
+    (words::kind(line) == words::BLOCK) & words::same(words::rest(line), name)
 }
 
 fn add_lines(text: &mut Buffer, held: usize, input: &[u8], start: usize) -> usize {
@@ -40,7 +44,7 @@ fn add_lines(text: &mut Buffer, held: usize, input: &[u8], start: usize) -> usiz
             return total;
         }
         total = add_line(text, total, line);
-        at = words::next_line(input, at);
+        at = words::next(input, at, b'\n');
     }
     total
 }

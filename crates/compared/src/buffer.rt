@@ -69,11 +69,11 @@ fn size(z: i32) -> u64
     if z < 0 { ((!z) as u64) + 1 } else { z as u64 }
 }
 
-// A name, a space and a number.
-pub fn named(buffer: &mut Buffer, held: usize, name: &[u8], n: u64) -> usize {
+// A name and a number, and a byte between.
+pub fn named(buffer: &mut Buffer, held: usize, name: &[u8], between: u8, n: u64) -> usize {
     let mut at = gap(buffer, held);
     at = bytes(buffer, at, name);
-    at = byte(buffer, at, b' ');
+    at = byte(buffer, at, between);
     number(buffer, at, n)
 }
 
@@ -82,7 +82,7 @@ pub fn part(buffer: &mut Buffer, held: usize, name: &[u8], n: u64, usual: u64) -
     if n == usual {
         return held;
     }
-    named(buffer, held, name, n)
+    named(buffer, held, name, b' ', n)
 }
 
 // Bytes in hex, a space between two.

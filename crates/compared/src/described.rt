@@ -5,13 +5,13 @@
 use crate::buffer;
 use crate::buffer::BROKEN;
 use crate::buffer::Buffer;
-use crate::tally;
+use crate::words;
 use bench::Ran;
 use bench::State;
 
 const NO_HANDLER: u64 = 65535;
 
-// The numbers of variables: those of the paper are below FIXED_END.
+// The names of the paper's variables, by number; there is no variable 0. User variables have no name here.
 const FIXED_END: usize = 21;
 
 const RECORD_SIZE: usize = 12;
@@ -25,43 +25,56 @@ pub const FILLER: u8 = 0xAA;
 pub fn put(line: &mut Buffer, held: usize, ran: Ran, records: &Buffer) -> usize {
     let state = ran.state;
     let count = ran.records;
-    let mut at = buffer::part(line, held, b"refused", ran.number as u64, 0);
-    at = buffer::part(line, at, b"index", ran.index as u64, 0);
-    at = buffer::part(line, at, b"reason", ran.reason as u64, 0);
-    at = buffer::part(line, at, b"turns", ran.turns, 0);
-    at = put_state(line, at, state, ran.number);
-    at = buffer::part(line, at, b"records", count as u64, 0);
+    let number = ran.number;
+    let mut at = put_end(
+        line,
+        held,
+        number as u64,
+        ran.index as u64,
+        ran.reason as u64,
+        ran.turns,
+    );
+    at = put_state(line, at, state, number);
     at = put_records(line, at, records, count);
-    buffer::part(line, at, b"changed", changed(records, bytes_of(count)), 0)
+    put_changed(line, at, records, bytes_of(count))
+}
+
+fn put_end(
+    line: &mut Buffer,
+    held: usize,
+    number: u64,
+    index: u64,
+    reason: u64,
+    turns: u64,
+) -> usize {
+    let mut at = buffer::part(line, held, b"refused", number, 0);
+    at = buffer::part(line, at, b"index", index, 0);
+    at = buffer::part(line, at, b"reason", reason, 0);
+    buffer::part(line, at, b"turns", turns, 0)
 }
 
 fn put_state(line: &mut Buffer, held: usize, state: State, refusal: u8) -> usize {
     let places = state.places;
     let variables = state.variables;
-    let mut at = buffer::part(line, held, b"next", state.next as u64, 0);
-    at = buffer::part(line, at, b"kept", state.kept as u64, 0);
-    at = put_places(line, at, places);
-    at = buffer::part(
+    let mut at = put_next(line, held, state.next as u64, state.kept as u64);
+    at = put_places(line, at, &places);
+    at = put_handler(line, at, state.handler as u64, refusal);
+    at = put_motion(
         line,
         at,
-        b"handler",
-        state.handler as u64,
-        no_handler(refusal),
+        state.hold as u64,
+        state.motion as u64,
+        state.value,
     );
-    at = buffer::part(line, at, b"hold", state.hold as u64, 0);
-    at = buffer::part(line, at, b"motion", state.motion as u64, 0);
-    at = put_value(line, at, state.value);
-    put_variables(line, at, variables, refusal)
+    put_variables(line, at, &variables, refusal)
 }
 
-fn no_handler(refusal: u8) -> u64 {
-    if refusal != 0 {
-        return 0;
-    }
-    NO_HANDLER
+fn put_next(line: &mut Buffer, held: usize, next: u64, kept: u64) -> usize {
+    let at = buffer::part(line, held, b"next", next, 0);
+    buffer::part(line, at, b"kept", kept, 0)
 }
 
-fn put_places(line: &mut Buffer, held: usize, places: [u16; 8]) -> usize {
+fn put_places(line: &mut Buffer, held: usize, places: &[u16; 8]) -> usize {
     let mut at = held;
     for i in 0..8 {
         at = put_place(line, at, i, places[i]);
@@ -73,24 +86,29 @@ fn put_place(line: &mut Buffer, held: usize, i: usize, place: u16) -> usize {
     if place == 0 {
         return held;
     }
-    let mut at = buffer::gap(line, held);
-    at = buffer::byte(line, at, b'p');
-    at = buffer::number(line, at, i as u64);
-    at = buffer::byte(line, at, b'=');
-    buffer::number(line, at, place as u64)
+    let name = words::nth(b"p0 p1 p2 p3 p4 p5 p6 p7", i);
+    buffer::named(line, held, name, b'=', place as u64)
 }
 
-// The target or the velocity of the motion.
-fn put_value(line: &mut Buffer, held: usize, value: i32) -> usize {
-    if value == 0 {
-        return held;
+fn put_handler(line: &mut Buffer, held: usize, handler: u64, refusal: u8) -> usize {
+    if refusal != 0 {
+        return buffer::part(line, held, b"handler", handler, 0);
     }
-    let mut at = buffer::gap(line, held);
-    at = buffer::bytes(line, at, b"value ");
+    buffer::part(line, held, b"handler", handler, NO_HANDLER)
+}
+
+// The hold left, and the motion with its target or velocity.
+fn put_motion(line: &mut Buffer, held: usize, hold: u64, motion: u64, value: i32) -> usize {
+    let mut at = buffer::part(line, held, b"hold", hold, 0);
+    at = buffer::part(line, at, b"motion", motion, 0);
+    if value == 0 {
+        return at;
+    }
+    at = buffer::bytes(line, at, b" value ");
     buffer::signed(line, at, value)
 }
 
-fn put_variables(line: &mut Buffer, held: usize, values: [i32; 64], refusal: u8) -> usize {
+fn put_variables(line: &mut Buffer, held: usize, values: &[i32; 64], refusal: u8) -> usize {
     let mut at = held;
     for i in 0..64 {
         at = put_variable(line, at, i, values[i], at_start(i, refusal));
@@ -126,32 +144,12 @@ fn put_name(line: &mut Buffer, held: usize, variable: usize) -> usize {
     if FIXED_END <= variable {
         return buffer::number(line, held, variable as u64);
     }
-    let at = buffer::byte(line, held, first(variable));
-    if second(variable) == b' ' {
-        return at;
-    }
-    buffer::byte(line, at, second(variable))
-}
-
-// The two characters of a variable's name, the second a space where there is one.
-fn first(variable: usize) -> u8 {
-    let names = b"?RRRRPADVVEOOOMEIIIII";
-    if variable < FIXED_END {
-        return names[variable];
-    }
-    b'?'
-}
-
-fn second(variable: usize) -> u8 {
-    let names = b"?1234   IMR123VF1234N";
-    if variable < FIXED_END {
-        return names[variable];
-    }
-    b'?'
+    let names = b"? R1 R2 R3 R4 P A D VI VM ER O1 O2 O3 MV EF I1 I2 I3 I4 IN";
+    buffer::bytes(line, held, words::nth(names, variable))
 }
 
 fn put_records(line: &mut Buffer, held: usize, records: &Buffer, count: usize) -> usize {
-    let mut at = held;
+    let mut at = buffer::part(line, held, b"records", count as u64, 0);
     for i in 0..SHOWN {
         at = put_record(line, at, records, i, count);
     }
@@ -162,19 +160,30 @@ fn put_record(line: &mut Buffer, held: usize, records: &Buffer, i: usize, count:
     if count <= i {
         return held;
     }
-    let from = bytes_of(i);
     let mut at = buffer::gap(line, held);
     at = buffer::byte(line, at, b'[');
-    at = buffer::number(line, at, four_bytes(records, from));
-    at = buffer::byte(line, at, b' ');
-    at = buffer::number(line, at, byte_at(records, from, 4) as u64);
-    at = buffer::byte(line, at, b' ');
-    at = buffer::number(line, at, byte_at(records, from, 5) as u64);
-    at = buffer::byte(line, at, b' ');
-    at = put_signed(line, at, four_bytes(records, plus(from, 8)));
-    at = buffer::part(line, at, b"zeros", byte_at(records, from, 6) as u64, 0);
-    at = buffer::part(line, at, b"zeros", byte_at(records, from, 7) as u64, 0);
+    at = put_fields(line, at, words::from(records, bytes_of(i)));
     buffer::byte(line, at, b']')
+}
+
+// The turn, the kind, the number and the value of a record; its zeros where they are none.
+fn put_fields(line: &mut Buffer, held: usize, record: &[u8]) -> usize {
+    let mut at = buffer::number(line, held, four_bytes(record));
+    at = put_byte(line, at, record, 4);
+    at = put_byte(line, at, record, 5);
+    at = buffer::byte(line, at, b' ');
+    at = put_signed(line, at, four_bytes(words::from(record, 8)));
+    put_zeros(line, at, record)
+}
+
+fn put_byte(line: &mut Buffer, held: usize, record: &[u8], i: usize) -> usize {
+    let at = buffer::byte(line, held, b' ');
+    buffer::number(line, at, buffer::byte_at(record, i) as u64)
+}
+
+fn put_zeros(line: &mut Buffer, held: usize, record: &[u8]) -> usize {
+    let at = buffer::part(line, held, b"zeros", buffer::byte_at(record, 6) as u64, 0);
+    buffer::part(line, at, b"zeros", buffer::byte_at(record, 7) as u64, 0)
 }
 
 // Four bytes that are read as a signed number.
@@ -189,36 +198,18 @@ fn put_signed(line: &mut Buffer, held: usize, bits: u64) -> usize {
     buffer::number(line, at, 4294967296 - bits)
 }
 
-fn four_bytes(values: &Buffer, from: usize) -> u64 {
+fn four_bytes(values: &[u8]) -> u64 {
     number(
-        byte_at(values, from, 0),
-        byte_at(values, from, 1),
-        byte_at(values, from, 2),
-        byte_at(values, from, 3),
+        buffer::byte_at(values, 0),
+        buffer::byte_at(values, 1),
+        buffer::byte_at(values, 2),
+        buffer::byte_at(values, 3),
     )
 }
 
 // Four bytes as a number, the lowest first.
 fn number(b0: u8, b1: u8, b2: u8, b3: u8) -> u64 {
     (b0 as u64) + (b1 as u64) * 256 + (b2 as u64) * 65536 + (b3 as u64) * 16777216
-}
-
-fn byte_at(values: &Buffer, from: usize, more: usize) -> u8 {
-    let i = plus(from, more);
-    if i < BROKEN {
-        return values[i];
-    }
-    0
-}
-
-fn plus(a: usize, b: usize) -> usize {
-    if 65536 <= a {
-        return 65536;
-    }
-    if 65536 <= b {
-        return 65536;
-    }
-    a + b
 }
 
 // The bytes that so many records take; 0 where no run writes so many.
@@ -230,7 +221,7 @@ fn bytes_of(records: usize) -> usize {
 }
 
 // How many bytes from `from` on are no longer the filler.
-pub fn changed(values: &Buffer, from: usize) -> u64 {
+fn changed(values: &Buffer, from: usize) -> u64 {
     let mut count = 0;
     for i in from..BROKEN {
         count = counted(count, values[i]);
@@ -242,5 +233,17 @@ fn counted(count: u64, b: u8) -> u64 {
     if b == FILLER {
         return count;
     }
-    tally::one_more(count)
+    one_more(count)
+}
+
+// The count of those, where there are any.
+pub fn put_changed(line: &mut Buffer, held: usize, values: &Buffer, from: usize) -> usize {
+    buffer::part(line, held, b"changed", changed(values, from), 0)
+}
+
+fn one_more(count: u64) -> u64 {
+    if count < u64::MAX {
+        return count + 1;
+    }
+    count
 }

@@ -6,7 +6,6 @@ mod buffer;
 mod described;
 mod input;
 mod reading;
-mod tally;
 mod words;
 
 use libc::STDIN_FILENO;
@@ -14,6 +13,6 @@ use libc::STDIN_FILENO;
 fn main() {
     let mut input = io::large_buffer();
     let size = io::read_full(STDIN_FILENO, &mut input);
-    let tally = reading::all(&input[..size]);
-    tally.write();
+    let state = reading::all(&input[..size]);
+    state.write();
 }

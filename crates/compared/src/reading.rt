@@ -1,129 +1,77 @@
-// Goes through the input line by line, and has each case tried where the next one starts. A line that says nothing known is written out, and
-// its case is counted as one that does not agree.
+// Goes through the input line by line, and tries each case at its expected answer. A line that says nothing known breaks its case, which is
+// then not tried and counts as one that does not agree.
 use crate::answers;
-use crate::answers::Call;
 use crate::blocks;
 use crate::buffer;
 use crate::buffer::BROKEN;
 use crate::buffer::Buffer;
 use crate::input;
-use crate::tally::Tally;
 use crate::words;
 use libc::STDOUT_FILENO;
 
-// What the lines since the last `case` or `block` said: where that line starts, how much each of the three buffers holds, and the call.
-struct Case {
+// What the lines since the last head said: where that line starts, how much the text and the events hold, the call and its numbers, and
+// whether an answer is still to come. And the count of the cases so far.
+pub struct State {
     head: usize,
+    waits: bool,
     text: usize,
     events: usize,
-    wanted: usize,
-    call: Call,
+    call: usize,
+    budget: u64,
+    room: u64,
+    agreeing: u64,
+    all: u64,
 }
 
-// The case at hand, and the count of those before it.
-struct Progress {
-    case: Case,
-    tally: Tally,
-}
-
-pub fn all(input: &[u8]) -> Tally {
+pub fn all(input: &[u8]) -> State {
     let mut text = io::large_buffer();
     let mut events = io::large_buffer();
-    let mut wanted = io::large_buffer();
-    let mut progress = Progress {
-        case: Case::at(input.len()),
-        tally: Tally::start(),
-    };
+    let mut state = State::start(input.len());
     let mut at = 0;
     while at < input.len() {
-        progress = progress.line(input, at, &mut text, &mut events, &mut wanted);
-        at = words::next_line(input, at);
+        state = state.line(input, at, &mut text, &mut events);
+        at = words::next(input, at, b'\n');
     }
-    let tally = progress.tally;
-    let case = progress.case;
-    case.finish(tally, input, &text, &events, &wanted)
+    state.closed(input)
 }
 
-impl Progress {
-    fn line(
-        self,
-        input: &[u8],
-        at: usize,
-        text: &mut Buffer,
-        events: &mut Buffer,
-        wanted: &mut Buffer,
-    ) -> Progress {
-        let case = self.case;
-        let tally = self.tally;
-        let line = words::line_at(input, at);
-        if blocks::is_head(line) {
-            return Progress {
-                case: Case::at(at),
-                tally: case.finish(tally, input, text, events, wanted),
-            };
+impl State {
+    fn start(end: usize) -> State {
+        State {
+            head: end,
+            waits: false,
+            text: 0,
+            events: 0,
+            call: 0,
+            budget: 0,
+            room: 0,
+            agreeing: 0,
+            all: 0,
         }
+    }
+
+    fn line(self, input: &[u8], at: usize, text: &mut Buffer, events: &mut Buffer) -> State {
+        let line = words::line_at(input, at);
         if words::is_silent(line) {
             return self;
         }
-        let more = case.and(line, input, text, events, wanted);
-        if case.is_sound() & !more.is_sound() {
-            io::write_all(STDOUT_FILENO, b"NOT read: ");
-            io::write_all(STDOUT_FILENO, line);
-            io::write_all(STDOUT_FILENO, b"\n");
+        let kind = words::kind(line);
+        if kind <= words::BLOCK {
+            return self.closed(input).opened(at, kind == words::CASE);
         }
-        Progress { case: more, tally }
-    }
-}
-
-impl Case {
-    fn at(head: usize) -> Case {
-        Case {
-            head: head,
-            text: 0,
-            events: 0,
-            wanted: 0,
-            call: Call::none(),
+        if kind == words::GIVES {
+            return self.tried(input, words::rest(line), text, events);
         }
-    }
-
-    fn is_sound(self) -> bool {
-        (self.text < BROKEN) & (self.events < BROKEN) & (self.wanted < BROKEN)
-    }
-
-    // All is there for the call.
-    fn is_whole(self) -> bool {
-        let call = self.call;
-        self.is_sound() & call.is_some() & (0 < self.wanted)
-    }
-
-    // There is only a text.
-    fn is_block(self) -> bool {
-        let call = self.call;
-        self.is_sound() & !call.is_some() & (self.wanted == 0) & (self.events == 0)
-    }
-
-    // The case with what one more line says.
-    fn and(
-        mut self,
-        line: &[u8],
-        input: &[u8],
-        text: &mut Buffer,
-        events: &mut Buffer,
-        wanted: &mut Buffer,
-    ) -> Case {
-        let rest = words::rest(line);
-        let call = Call::of(line);
-        if words::starts(line, b"gives") {
-            let at = buffer::gap(wanted, self.wanted);
-            self.wanted = buffer::bytes(wanted, at, rest);
-            return self;
+        if kind <= words::RUN {
+            return self.asked(kind, words::rest(line), input, text);
         }
-        if words::starts(line, b"from") {
-            self.text = blocks::add(text, self.text, input, rest);
-            return self;
-        }
-        if call.is_some() {
-            return self.called(call);
+        self.added(line, text, events)
+    }
+
+    // A line that adds to the text or to the events, before the call.
+    fn added(mut self, line: &[u8], text: &mut Buffer, events: &mut Buffer) -> State {
+        if self.call != 0 {
+            return self.broken();
         }
         if input::is_event(line) {
             self.events = input::add(events, self.events, line);
@@ -133,42 +81,116 @@ impl Case {
         self
     }
 
-    // A case has one call.
-    fn called(mut self, call: Call) -> Case {
-        let before = self.call;
-        if before.is_some() | !call.is_right() {
+    // The text of a block, or a call with its numbers.
+    fn asked(mut self, kind: usize, rest: &[u8], input: &[u8], text: &mut Buffer) -> State {
+        if kind == words::FROM {
+            let at = blocks::add(text, self.text, input, rest);
+            self.text = buffer::if_right(self.call == 0, at);
+            return self;
+        }
+        if kind == words::TRANSLATE {
+            return self.called(kind, 0, words::number(rest));
+        }
+        if kind == words::RUN {
+            return self.called(
+                kind,
+                words::number(words::first(rest)),
+                words::number(words::rest(rest)),
+            );
+        }
+        self.text = buffer::if_right(rest.len() == 0, self.text);
+        self.called(kind, 0, 0)
+    }
+
+    // A case has one call, and what it lends is no longer than the buffers here.
+    fn called(mut self, kind: usize, budget: u64, room: u64) -> State {
+        if !self.waits | (self.call != 0) | (budget == words::NO_NUMBER) | (65536 < room) {
             self.text = BROKEN;
         }
-        self.call = call;
+        self.call = kind;
+        self.budget = budget;
+        self.room = room;
         self
     }
 
-    // Where the next case starts: this one is tried. A block is left for the cases that name it.
-    fn finish(
-        self,
-        tally: Tally,
-        input: &[u8],
-        text: &Buffer,
-        events: &Buffer,
-        wanted: &Buffer,
-    ) -> Tally {
-        let head = words::line_at(input, self.head);
-        let name = words::rest(head);
-        let is_case = words::starts(head, b"case");
-        if is_case & self.is_whole() {
-            let call = self.call;
-            return answers::tried(
-                tally,
-                name,
-                call,
-                buffer::front(text, self.text),
-                buffer::front(events, self.events),
-                buffer::front(wanted, self.wanted),
-            );
-        }
-        if !is_case & self.is_block() {
-            return tally;
-        }
-        answers::not_tried(tally, name)
+    // A head: the next case or block.
+    fn opened(mut self, head: usize, is_case: bool) -> State {
+        self.head = head;
+        self.waits = is_case;
+        self.text = 0;
+        self.events = 0;
+        self.call = 0;
+        self
     }
+
+    fn is_sound(self) -> bool {
+        (self.text < BROKEN) & (self.events < BROKEN)
+    }
+
+    // The end of a case or block: where an answer still waits, or something is broken, it is told.
+    fn closed(self, input: &[u8]) -> State {
+        if !self.waits & self.is_sound() {
+            return self;
+        }
+        io::write_all(STDOUT_FILENO, name(input, self.head));
+        io::write_all(STDOUT_FILENO, b": NOT tried\n");
+        self.counted(false)
+    }
+
+    // The expected answer: the case is tried, where it has a call and nothing is broken.
+    fn tried(self, input: &[u8], wanted: &[u8], text: &Buffer, events: &Buffer) -> State {
+        if !self.waits | (self.call == 0) | !self.is_sound() {
+            return self.broken();
+        }
+        let agrees = answers::agrees(
+            name(input, self.head),
+            answers::Call {
+                kind: self.call,
+                budget: self.budget,
+                room: self.room as usize,
+            },
+            buffer::front(text, self.text),
+            buffer::front(events, self.events),
+            wanted,
+        );
+        self.counted(agrees).answered()
+    }
+
+    fn broken(mut self) -> State {
+        self.text = BROKEN;
+        self
+    }
+
+    // What follows an answer has no case.
+    fn answered(mut self) -> State {
+        self.waits = false;
+        self
+    }
+
+    fn counted(mut self, agrees: bool) -> State {
+        if agrees {
+            self.agreeing = one_more(self.agreeing);
+        }
+        self.all = one_more(self.all);
+        self
+    }
+
+    // The last line.
+    pub fn write(self) {
+        io::print_decimal(STDOUT_FILENO, self.agreeing);
+        io::write_all(STDOUT_FILENO, b" of ");
+        io::print_decimal(STDOUT_FILENO, self.all);
+        io::write_all(STDOUT_FILENO, b" agree\n");
+    }
+}
+
+fn name<'a>(input: &'a [u8], head: usize) -> &'a [u8] {
+    words::rest(words::line_at(input, head))
+}
+
+fn one_more(count: u64) -> u64 {
+    if count < u64::MAX {
+        return count + 1;
+    }
+    count
 }

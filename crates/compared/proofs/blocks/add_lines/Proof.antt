@@ -8,7 +8,7 @@ use Rattle.compared.proofs.blocks.add_lines.Tie as tie
 use Rattle.compared.proofs.blocks.add_line.Reads as add-line-reads
 use Rattle.compared.proofs.blocks.is_head.Reads as is-head-reads
 use Rattle.compared.proofs.words.line_at.Reads as line-at-reads
-use Rattle.compared.proofs.words.next_line.Reads as next-line-reads
+use Rattle.compared.proofs.words.next.Reads as next-reads
 
 abbrev Inv-loop : tie.InvT-loop
 Inv-loop text₀ held input start total₀ at₀ text total at = Unit {0}
@@ -31,8 +31,8 @@ returns c = search needs
 add-line-requires : tie.Need-add-line-requires Inv-loop μ-loop
 add-line-requires c κs = search needs
 
-next-line-requires : tie.Need-next-line-requires Inv-loop μ-loop
-next-line-requires c κs = search needs
+next-requires : tie.Need-next-requires Inv-loop μ-loop
+next-requires c κs = search needs
 
 loop-less : tie.Need-loop-less Inv-loop μ-loop
 loop-less c = search needs
@@ -54,7 +54,7 @@ add-lines-spec =
     is-head-requires
     returns
     add-line-requires
-    next-line-requires
+    next-requires
     loop-less
     loop-again
     returns-2)

@@ -5,17 +5,15 @@ use lib.ListN.{length}
 use borrow.Author.Needs.{needs}
 use Rattle.compared.proofs.blocks.start_of.Statement.{statement}
 use Rattle.compared.proofs.blocks.start_of.Tie as tie
+use Rattle.compared.proofs.blocks.is_block.Reads as is-block-reads
 use Rattle.compared.proofs.words.line_at.Reads as line-at-reads
-use Rattle.compared.proofs.words.next_line.Reads as next-line-reads
-use Rattle.compared.proofs.words.rest.Reads as rest-reads
-use Rattle.compared.proofs.words.same.Reads as same-reads
-use Rattle.compared.proofs.words.starts.Reads as starts-reads
+use Rattle.compared.proofs.words.next.Reads as next-reads
 
 abbrev Inv-loop : tie.InvT-loop
-Inv-loop input name at₀ t5 at = Unit {0}
+Inv-loop input name at₀ at = Unit {0}
 
 abbrev μ-loop : tie.MeasureT-loop
-μ-loop input name at₀ t5 at = length input - at
+μ-loop input name at₀ at = length input - at
 
 loop-holds : tie.Need-loop-holds Inv-loop μ-loop
 loop-holds c = search needs
@@ -23,20 +21,11 @@ loop-holds c = search needs
 line-at-requires : tie.Need-line-at-requires Inv-loop μ-loop
 line-at-requires c κs = search needs
 
-next-line-requires : tie.Need-next-line-requires Inv-loop μ-loop
-next-line-requires c κs = search needs
+next-requires : tie.Need-next-requires Inv-loop μ-loop
+next-requires c κs = search needs
 
-slice-aggregate-starts : tie.Need-slice-aggregate-starts Inv-loop μ-loop
-slice-aggregate-starts c = search needs
-
-starts-requires : tie.Need-starts-requires Inv-loop μ-loop
-starts-requires c κs = search needs
-
-rest-requires : tie.Need-rest-requires Inv-loop μ-loop
-rest-requires c κs = search needs
-
-same-requires : tie.Need-same-requires Inv-loop μ-loop
-same-requires c κs = search needs
+is-block-requires : tie.Need-is-block-requires Inv-loop μ-loop
+is-block-requires c κs = search needs
 
 returns : tie.Need-returns Inv-loop μ-loop
 returns c = search needs
@@ -58,11 +47,8 @@ start-of-spec =
     μ-loop
     loop-holds
     line-at-requires
-    next-line-requires
-    slice-aggregate-starts
-    starts-requires
-    rest-requires
-    same-requires
+    next-requires
+    is-block-requires
     returns
     loop-less
     loop-again

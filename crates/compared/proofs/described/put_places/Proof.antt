@@ -4,6 +4,7 @@ use Prim.Native.Nat.{_-_}
 use borrow.Author.Needs.{needs}
 use Rattle.compared.proofs.described.put_places.Statement.{statement}
 use Rattle.compared.proofs.described.put_places.Tie as tie
+use Rattle.compared.proofs.described.put_place.Reads as put-place-reads
 
 abbrev Inv-loop : tie.InvT-loop
 Inv-loop line₀ held places at₀ i₀ line at i = Unit {0}
@@ -17,8 +18,8 @@ loop-holds c = search needs
 mul-put-place : tie.Need-mul-put-place Inv-loop μ-loop
 mul-put-place c = search needs
 
-array-read-put-place : tie.Need-array-read-put-place Inv-loop μ-loop
-array-read-put-place c = search needs
+element-copy-out-put-place : tie.Need-element-copy-out-put-place Inv-loop μ-loop
+element-copy-out-put-place c = search needs
 
 put-place-requires : tie.Need-put-place-requires Inv-loop μ-loop
 put-place-requires c κs = search needs
@@ -43,7 +44,7 @@ put-places-spec =
     μ-loop
     loop-holds
     mul-put-place
-    array-read-put-place
+    element-copy-out-put-place
     put-place-requires
     add-i
     loop-less

@@ -4,12 +4,20 @@ use Prim.Native.Nat.{_-_}
 use borrow.Author.Needs.{needs}
 use Rattle.compared.proofs.described.put_records.Statement.{statement}
 use Rattle.compared.proofs.described.put_records.Tie as tie
+use Rattle.compared.proofs.buffer.part.Reads as part-reads
+use Rattle.compared.proofs.described.put_record.Reads as put-record-reads
 
 abbrev Inv-loop : tie.InvT-loop
 Inv-loop line₀ held records count at₀ i₀ line at i = Unit {0}
 
 abbrev μ-loop : tie.MeasureT-loop
 μ-loop line₀ held records count at₀ i₀ line at i = 16 - i
+
+slice-aggregate-part : tie.Need-slice-aggregate-part Inv-loop μ-loop
+slice-aggregate-part c = search needs
+
+part-requires : tie.Need-part-requires Inv-loop μ-loop
+part-requires c κs = search needs
 
 loop-holds : tie.Need-loop-holds Inv-loop μ-loop
 loop-holds c = search needs
@@ -32,4 +40,14 @@ returns c = search needs
 pub put-records-spec : {M : Type 1} → statement M
 put-records-spec =
     tie.close
-    (tie.spec Inv-loop μ-loop loop-holds put-record-requires add-i loop-less loop-again returns)
+    (tie.spec
+    Inv-loop
+    μ-loop
+    slice-aggregate-part
+    part-requires
+    loop-holds
+    put-record-requires
+    add-i
+    loop-less
+    loop-again
+    returns)

@@ -4,19 +4,27 @@ use Prim.Native.Nat.{_-_}
 use borrow.Author.Needs.{needs}
 use Rattle.compared.proofs.input.repeat.Statement.{statement}
 use Rattle.compared.proofs.input.repeat.Tie as tie
-use Rattle.compared.proofs.input.add_text.Reads as add-text-reads
+use Rattle.compared.proofs.input.add_once.Reads as add-once-reads
+use Rattle.compared.proofs.words.kind.Reads as kind-reads
+use Rattle.compared.proofs.words.rest.Reads as rest-reads
 
 abbrev Inv-loop : tie.InvT-loop
-Inv-loop buffer₀ held times line at₀ i₀ buffer at i = Unit {0}
+Inv-loop buffer₀ held times line kind rest at₀ i₀ buffer at i = Unit {0}
 
 abbrev μ-loop : tie.MeasureT-loop
-μ-loop buffer₀ held times line at₀ i₀ buffer at i = times - i
+μ-loop buffer₀ held times line kind rest at₀ i₀ buffer at i = times - i
+
+kind-requires : tie.Need-kind-requires Inv-loop μ-loop
+kind-requires c κs = search needs
+
+rest-requires : tie.Need-rest-requires Inv-loop μ-loop
+rest-requires c κs = search needs
 
 loop-holds : tie.Need-loop-holds Inv-loop μ-loop
 loop-holds c = search needs
 
-add-text-requires : tie.Need-add-text-requires Inv-loop μ-loop
-add-text-requires c κs = search needs
+add-once-requires : tie.Need-add-once-requires Inv-loop μ-loop
+add-once-requires c κs = search needs
 
 add-i : tie.Need-add-i Inv-loop μ-loop
 add-i c = search needs
@@ -33,4 +41,14 @@ returns c = search needs
 pub repeat-spec : {M : Type 1} → statement M
 repeat-spec =
     tie.close
-    (tie.spec Inv-loop μ-loop loop-holds add-text-requires add-i loop-less loop-again returns)
+    (tie.spec
+    Inv-loop
+    μ-loop
+    kind-requires
+    rest-requires
+    loop-holds
+    add-once-requires
+    add-i
+    loop-less
+    loop-again
+    returns)

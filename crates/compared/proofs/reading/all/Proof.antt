@@ -5,30 +5,23 @@ use lib.ListN.{length}
 use borrow.Author.Needs.{needs}
 use Rattle.compared.proofs.reading.all.Statement.{statement}
 use Rattle.compared.proofs.reading.all.Tie as tie
-use Rattle.compared.proofs.reading.Case.at.Reads as at-reads
-use Rattle.compared.proofs.reading.Case.finish.Reads as finish-reads
-use Rattle.compared.proofs.reading.Progress.line.Reads as line-reads
-use Rattle.compared.proofs.tally.Tally.start.Reads as start-reads
-use Rattle.compared.proofs.words.next_line.Reads as next-line-reads
+use Rattle.compared.proofs.reading.State.closed.Reads as closed-reads
+use Rattle.compared.proofs.reading.State.line.Reads as line-reads
+use Rattle.compared.proofs.reading.State.start.Reads as start-reads
+use Rattle.compared.proofs.words.next.Reads as next-reads
 use Rattle.io.proofs.large_buffer.Reads as large-buffer-reads
 
 abbrev Inv-loop : tie.InvT-loop
-Inv-loop input text₀ events₀ wanted₀ progress₀ at₀ text events wanted progress at = Unit {0}
+Inv-loop input text₀ events₀ state₀ at₀ text events state at = Unit {0}
 
 abbrev μ-loop : tie.MeasureT-loop
-μ-loop input text₀ events₀ wanted₀ progress₀ at₀ text events wanted progress at = length input - at
+μ-loop input text₀ events₀ state₀ at₀ text events state at = length input - at
 
 large-buffer-requires : tie.Need-large-buffer-requires Inv-loop μ-loop
 large-buffer-requires c κs = search needs
 
 large-buffer-requires-2 : tie.Need-large-buffer-requires-2 Inv-loop μ-loop
 large-buffer-requires-2 c κs = search needs
-
-large-buffer-requires-3 : tie.Need-large-buffer-requires-3 Inv-loop μ-loop
-large-buffer-requires-3 c κs = search needs
-
-at-requires : tie.Need-at-requires Inv-loop μ-loop
-at-requires c κs = search needs
 
 start-requires : tie.Need-start-requires Inv-loop μ-loop
 start-requires c κs = search needs
@@ -39,8 +32,8 @@ loop-holds c = search needs
 line-requires : tie.Need-line-requires Inv-loop μ-loop
 line-requires c κs = search needs
 
-next-line-requires : tie.Need-next-line-requires Inv-loop μ-loop
-next-line-requires c κs = search needs
+next-requires : tie.Need-next-requires Inv-loop μ-loop
+next-requires c κs = search needs
 
 loop-less : tie.Need-loop-less Inv-loop μ-loop
 loop-less c = search needs
@@ -48,8 +41,8 @@ loop-less c = search needs
 loop-again : tie.Need-loop-again Inv-loop μ-loop
 loop-again c = search needs
 
-finish-requires : tie.Need-finish-requires Inv-loop μ-loop
-finish-requires c κs = search needs
+closed-requires : tie.Need-closed-requires Inv-loop μ-loop
+closed-requires c κs = search needs
 
 returns : tie.Need-returns Inv-loop μ-loop
 returns c = search needs
@@ -62,13 +55,11 @@ all-spec =
     μ-loop
     large-buffer-requires
     large-buffer-requires-2
-    large-buffer-requires-3
-    at-requires
     start-requires
     loop-holds
     line-requires
-    next-line-requires
+    next-requires
     loop-less
     loop-again
-    finish-requires
+    closed-requires
     returns)

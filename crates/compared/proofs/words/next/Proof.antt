@@ -1,17 +1,17 @@
--- `next_line` answers a later place: it looks from its place on.
+-- `next` answers a later place: it looks from its place on.
 -- Assumes nothing.
 use mathlib.Core.Path.{_≡_}
 use Prim.Native.Nat.{_-_, _≤_}
 use lib.ListN.{length}
 use borrow.Author.Needs.{needs}
-use Rattle.compared.proofs.words.next_line.Statement.{statement}
-use Rattle.compared.proofs.words.next_line.Tie as tie
+use Rattle.compared.proofs.words.next.Statement.{statement}
+use Rattle.compared.proofs.words.next.Tie as tie
 
 abbrev Inv-loop : tie.InvT-loop
-Inv-loop input at i₀ i-end i = (i-end ≡ length input) × (at ≤ i)
+Inv-loop values at b i₀ i-end i = (i-end ≡ length values) × (at ≤ i)
 
 abbrev μ-loop : tie.MeasureT-loop
-μ-loop input at i₀ i-end i = i-end - i
+μ-loop values at b i₀ i-end i = i-end - i
 
 loop-holds : tie.Need-loop-holds Inv-loop μ-loop
 loop-holds c = search needs
@@ -37,8 +37,8 @@ loop-again c = search needs
 returns-2 : tie.Need-returns-2 Inv-loop μ-loop
 returns-2 c = search needs
 
-pub next-line-spec : {M : Type 1} → statement M
-next-line-spec =
+pub next-spec : {M : Type 1} → statement M
+next-spec =
     tie.close
     (tie.spec
     Inv-loop
