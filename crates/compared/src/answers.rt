@@ -31,12 +31,16 @@ fn compared(got: &[u8], wanted: &[u8]) -> bool {
         io::write_all(STDOUT_FILENO, b": as expected\n");
         return true;
     }
+    tell_apart(got, wanted);
+    false
+}
+
+fn tell_apart(got: &[u8], wanted: &[u8]) {
     io::write_all(STDOUT_FILENO, b": NOT as expected, got: ");
     io::write_all(STDOUT_FILENO, got);
     io::write_all(STDOUT_FILENO, b"; wanted: ");
     io::write_all(STDOUT_FILENO, wanted);
     io::write_all(STDOUT_FILENO, b"\n");
-    false
 }
 
 impl Call {
@@ -46,7 +50,7 @@ impl Call {
         match kind {
             words::TRANSLATE => translate(text, self.room, line),
             words::IMAGE => image(text, line),
-            words::CHECK => check(text, line),
+            words::CHECK => check(text, events, line),
             _ => run(text, events, self.budget, self.room, line),
         }
     }
@@ -56,19 +60,15 @@ fn translate(text: &[u8], room: usize, line: &mut Buffer) -> usize {
     let mut image = filled();
     let size = words::within(room, &image);
     let answer = bench::translate(text, &mut image[..size]);
-    let at = put_translated(
-        line,
-        answer.number as u64,
-        answer.line as u64,
-        answer.length as u64,
-    );
-    described::put_changed(line, at, &image, answer.length)
+    let length = answer.length;
+    let at = put_translated(line, answer);
+    described::put_changed(line, at, &image, length)
 }
 
-fn put_translated(text: &mut Buffer, number: u64, line: u64, length: u64) -> usize {
-    let mut at = buffer::named(text, 0, b"number", b' ', number);
-    at = buffer::named(text, at, b"line", b' ', line);
-    buffer::named(text, at, b"length", b' ', length)
+fn put_translated(line: &mut Buffer, answer: bench::Translated) -> usize {
+    let mut at = buffer::named(line, 0, buffer::NUMBER, answer.number as u64);
+    at = buffer::named(line, at, buffer::LINE, answer.line as u64);
+    buffer::named(line, at, buffer::LENGTH, answer.length as u64)
 }
 
 // The bytes of a text's image.
@@ -79,19 +79,19 @@ fn image(text: &[u8], line: &mut Buffer) -> usize {
 }
 
 // Where an image is refused, so is its run.
-fn check(image: &[u8], line: &mut Buffer) -> usize {
+fn check(image: &[u8], events: &[u8], line: &mut Buffer) -> usize {
     let answer = bench::check(image);
-    let at = buffer::named(line, 0, b"number", b' ', answer.number as u64);
+    let at = buffer::named(line, 0, buffer::NUMBER, answer.number as u64);
     if answer.number == 0 {
         return at;
     }
-    run_refused(image, line, at)
+    run_refused(image, events, line, at)
 }
 
-fn run_refused(image: &[u8], line: &mut Buffer, held: usize) -> usize {
+fn run_refused(image: &[u8], events: &[u8], line: &mut Buffer, held: usize) -> usize {
     let mut records = filled();
-    let ran = bench::run(image, b"", 1, &mut records);
-    let at = buffer::bytes(line, held, b", run:");
+    let ran = bench::run(image, events, 1, &mut records);
+    let at = buffer::word(line, held, buffer::RUN);
     described::put(line, at, ran, &records)
 }
 

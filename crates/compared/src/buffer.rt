@@ -69,20 +69,62 @@ fn size(z: i32) -> u64
     if z < 0 { ((!z) as u64) + 1 } else { z as u64 }
 }
 
-// A name and a number, and a byte between.
-pub fn named(buffer: &mut Buffer, held: usize, name: &[u8], between: u8, n: u64) -> usize {
-    let mut at = gap(buffer, held);
-    at = bytes(buffer, at, name);
-    at = byte(buffer, at, between);
+// The words of an answer, by number.
+pub const NUMBER: usize = 0;
+
+pub const LINE: usize = 1;
+
+pub const LENGTH: usize = 2;
+
+pub const RUN: usize = 3;
+
+pub const REFUSED: usize = 4;
+
+pub const INDEX: usize = 5;
+
+pub const REASON: usize = 6;
+
+pub const TURNS: usize = 7;
+
+pub const NEXT: usize = 8;
+
+pub const KEPT: usize = 9;
+
+pub const HANDLER: usize = 10;
+
+pub const HOLD: usize = 11;
+
+pub const MOTION: usize = 12;
+
+pub const VALUE: usize = 13;
+
+pub const RECORDS: usize = 14;
+
+pub const ZEROS: usize = 15;
+
+pub const CHANGED: usize = 16;
+
+// A word, behind a space.
+pub fn word(buffer: &mut Buffer, held: usize, name: usize) -> usize {
+    let at = gap(buffer, held);
+    let names =
+        b"number line length run refused index reason turns next kept handler hold motion value records zeros changed";
+    bytes(buffer, at, words::nth(names, name))
+}
+
+// A word and a number.
+pub fn named(buffer: &mut Buffer, held: usize, name: usize, n: u64) -> usize {
+    let mut at = word(buffer, held, name);
+    at = byte(buffer, at, b' ');
     number(buffer, at, n)
 }
 
 // The same, unless the number is the one that needs no mention.
-pub fn part(buffer: &mut Buffer, held: usize, name: &[u8], n: u64, usual: u64) -> usize {
+pub fn part(buffer: &mut Buffer, held: usize, name: usize, n: u64, usual: u64) -> usize {
     if n == usual {
         return held;
     }
-    named(buffer, held, name, b' ', n)
+    named(buffer, held, name, n)
 }
 
 // Bytes in hex, a space between two.

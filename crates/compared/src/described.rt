@@ -26,14 +26,7 @@ pub fn put(line: &mut Buffer, held: usize, ran: Ran, records: &Buffer) -> usize 
     let state = ran.state;
     let count = ran.records;
     let number = ran.number;
-    let mut at = put_end(
-        line,
-        held,
-        number as u64,
-        ran.index as u64,
-        ran.reason as u64,
-        ran.turns,
-    );
+    let mut at = put_end(line, held, number, ran.index, ran.reason, ran.turns);
     at = put_state(line, at, state, number);
     at = put_records(line, at, records, count);
     put_changed(line, at, records, bytes_of(count))
@@ -42,36 +35,30 @@ pub fn put(line: &mut Buffer, held: usize, ran: Ran, records: &Buffer) -> usize 
 fn put_end(
     line: &mut Buffer,
     held: usize,
-    number: u64,
-    index: u64,
-    reason: u64,
+    number: u8,
+    index: usize,
+    reason: u8,
     turns: u64,
 ) -> usize {
-    let mut at = buffer::part(line, held, b"refused", number, 0);
-    at = buffer::part(line, at, b"index", index, 0);
-    at = buffer::part(line, at, b"reason", reason, 0);
-    buffer::part(line, at, b"turns", turns, 0)
+    let mut at = buffer::part(line, held, buffer::REFUSED, number as u64, 0);
+    at = buffer::part(line, at, buffer::INDEX, index as u64, 0);
+    at = buffer::part(line, at, buffer::REASON, reason as u64, 0);
+    buffer::part(line, at, buffer::TURNS, turns, 0)
 }
 
 fn put_state(line: &mut Buffer, held: usize, state: State, refusal: u8) -> usize {
     let places = state.places;
     let variables = state.variables;
-    let mut at = put_next(line, held, state.next as u64, state.kept as u64);
+    let mut at = put_next(line, held, state.next, state.kept);
     at = put_places(line, at, &places);
-    at = put_handler(line, at, state.handler as u64, refusal);
-    at = put_motion(
-        line,
-        at,
-        state.hold as u64,
-        state.motion as u64,
-        state.value,
-    );
+    at = put_handler(line, at, state.handler, refusal);
+    at = put_motion(line, at, state.hold, state.motion, state.value);
     put_variables(line, at, &variables, refusal)
 }
 
-fn put_next(line: &mut Buffer, held: usize, next: u64, kept: u64) -> usize {
-    let at = buffer::part(line, held, b"next", next, 0);
-    buffer::part(line, at, b"kept", kept, 0)
+fn put_next(line: &mut Buffer, held: usize, next: u16, kept: u8) -> usize {
+    let at = buffer::part(line, held, buffer::NEXT, next as u64, 0);
+    buffer::part(line, at, buffer::KEPT, kept as u64, 0)
 }
 
 fn put_places(line: &mut Buffer, held: usize, places: &[u16; 8]) -> usize {
@@ -86,25 +73,38 @@ fn put_place(line: &mut Buffer, held: usize, i: usize, place: u16) -> usize {
     if place == 0 {
         return held;
     }
-    let name = words::nth(b"p0 p1 p2 p3 p4 p5 p6 p7", i);
-    buffer::named(line, held, name, b'=', place as u64)
+    let mut at = buffer::bytes(line, held, b" p");
+    at = buffer::number(line, at, i as u64);
+    at = buffer::byte(line, at, b'=');
+    buffer::number(line, at, place as u64)
 }
 
-fn put_handler(line: &mut Buffer, held: usize, handler: u64, refusal: u8) -> usize {
+fn put_handler(line: &mut Buffer, held: usize, handler: u16, refusal: u8) -> usize {
+    buffer::part(
+        line,
+        held,
+        buffer::HANDLER,
+        handler as u64,
+        no_handler(refusal),
+    )
+}
+
+fn no_handler(refusal: u8) -> u64 {
     if refusal != 0 {
-        return buffer::part(line, held, b"handler", handler, 0);
+        return 0;
     }
-    buffer::part(line, held, b"handler", handler, NO_HANDLER)
+    NO_HANDLER
 }
 
 // The hold left, and the motion with its target or velocity.
-fn put_motion(line: &mut Buffer, held: usize, hold: u64, motion: u64, value: i32) -> usize {
-    let mut at = buffer::part(line, held, b"hold", hold, 0);
-    at = buffer::part(line, at, b"motion", motion, 0);
+fn put_motion(line: &mut Buffer, held: usize, hold: u32, motion: u8, value: i32) -> usize {
+    let mut at = buffer::part(line, held, buffer::HOLD, hold as u64, 0);
+    at = buffer::part(line, at, buffer::MOTION, motion as u64, 0);
     if value == 0 {
         return at;
     }
-    at = buffer::bytes(line, at, b" value ");
+    at = buffer::word(line, at, buffer::VALUE);
+    at = buffer::byte(line, at, b' ');
     buffer::signed(line, at, value)
 }
 
@@ -149,7 +149,7 @@ fn put_name(line: &mut Buffer, held: usize, variable: usize) -> usize {
 }
 
 fn put_records(line: &mut Buffer, held: usize, records: &Buffer, count: usize) -> usize {
-    let mut at = buffer::part(line, held, b"records", count as u64, 0);
+    let mut at = buffer::part(line, held, buffer::RECORDS, count as u64, 0);
     for i in 0..SHOWN {
         at = put_record(line, at, records, i, count);
     }
@@ -182,8 +182,20 @@ fn put_byte(line: &mut Buffer, held: usize, record: &[u8], i: usize) -> usize {
 }
 
 fn put_zeros(line: &mut Buffer, held: usize, record: &[u8]) -> usize {
-    let at = buffer::part(line, held, b"zeros", buffer::byte_at(record, 6) as u64, 0);
-    buffer::part(line, at, b"zeros", buffer::byte_at(record, 7) as u64, 0)
+    let at = buffer::part(
+        line,
+        held,
+        buffer::ZEROS,
+        buffer::byte_at(record, 6) as u64,
+        0,
+    );
+    buffer::part(
+        line,
+        at,
+        buffer::ZEROS,
+        buffer::byte_at(record, 7) as u64,
+        0,
+    )
 }
 
 // Four bytes that are read as a signed number.
@@ -238,7 +250,7 @@ fn counted(count: u64, b: u8) -> u64 {
 
 // The count of those, where there are any.
 pub fn put_changed(line: &mut Buffer, held: usize, values: &Buffer, from: usize) -> usize {
-    buffer::part(line, held, b"changed", changed(values, from), 0)
+    buffer::part(line, held, buffer::CHANGED, changed(values, from), 0)
 }
 
 fn one_more(count: u64) -> u64 {

@@ -13,9 +13,6 @@ Inv-loop line₀ held records count at₀ i₀ line at i = Unit {0}
 abbrev μ-loop : tie.MeasureT-loop
 μ-loop line₀ held records count at₀ i₀ line at i = 16 - i
 
-slice-aggregate-part : tie.Need-slice-aggregate-part Inv-loop μ-loop
-slice-aggregate-part c = search needs
-
 part-requires : tie.Need-part-requires Inv-loop μ-loop
 part-requires c κs = search needs
 
@@ -43,7 +40,6 @@ put-records-spec =
     (tie.spec
     Inv-loop
     μ-loop
-    slice-aggregate-part
     part-requires
     loop-holds
     put-record-requires
