@@ -36,11 +36,12 @@ pub fn all(input: &[u8]) -> State {
 }
 
 impl State {
+    // An input that fills its buffer may be cut off, and counts as broken.
     fn start(end: usize) -> State {
         State {
             head: end,
             waits: false,
-            text: 0,
+            text: buffer::if_right(end < BROKEN, 0),
             events: 0,
             call: 0,
             budget: 0,
