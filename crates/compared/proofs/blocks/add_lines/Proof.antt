@@ -5,10 +5,6 @@ use lib.ListN.{length}
 use borrow.Author.Needs.{needs}
 use Rattle.compared.proofs.blocks.add_lines.Statement.{statement}
 use Rattle.compared.proofs.blocks.add_lines.Tie as tie
-use Rattle.compared.proofs.blocks.add_line.Reads as add-line-reads
-use Rattle.compared.proofs.blocks.is_head.Reads as is-head-reads
-use Rattle.compared.proofs.words.line_at.Reads as line-at-reads
-use Rattle.compared.proofs.words.next.Reads as next-reads
 
 abbrev Inv-loop : tie.InvT-loop
 Inv-loop text₀ held input start total₀ at₀ text total at = Unit {0}

@@ -5,9 +5,6 @@ use lib.ListN.{length}
 use borrow.Author.Needs.{needs}
 use Rattle.compared.proofs.blocks.start_of.Statement.{statement}
 use Rattle.compared.proofs.blocks.start_of.Tie as tie
-use Rattle.compared.proofs.blocks.is_block.Reads as is-block-reads
-use Rattle.compared.proofs.words.line_at.Reads as line-at-reads
-use Rattle.compared.proofs.words.next.Reads as next-reads
 
 abbrev Inv-loop : tie.InvT-loop
 Inv-loop input name at₀ at = Unit {0}

@@ -6,7 +6,6 @@ use lib.ListN.{length}
 use borrow.Author.Needs.{needs}
 use Rattle.compared.proofs.buffer.put_hex.Statement.{statement}
 use Rattle.compared.proofs.buffer.put_hex.Tie as tie
-use Rattle.compared.proofs.buffer.put_hex_byte.Reads as put-hex-byte-reads
 
 abbrev Inv-loop : tie.InvT-loop
 Inv-loop buffer₀ held values at₀ i₀ i-end buffer at i = i-end ≡ length values

@@ -6,7 +6,6 @@ use lib.ListN.{length}
 use borrow.Author.Needs.{needs}
 use Rattle.compared.proofs.buffer.read_hex.Statement.{statement}
 use Rattle.compared.proofs.buffer.read_hex.Tie as tie
-use Rattle.compared.proofs.buffer.read_hex_at.Reads as read-hex-at-reads
 
 abbrev Inv-loop : tie.InvT-loop
 Inv-loop buffer₀ held written at₀ i₀ i-end buffer at i = i-end ≡ length written

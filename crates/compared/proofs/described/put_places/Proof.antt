@@ -4,7 +4,6 @@ use Prim.Native.Nat.{_-_}
 use borrow.Author.Needs.{needs}
 use Rattle.compared.proofs.described.put_places.Statement.{statement}
 use Rattle.compared.proofs.described.put_places.Tie as tie
-use Rattle.compared.proofs.described.put_place.Reads as put-place-reads
 
 abbrev Inv-loop : tie.InvT-loop
 Inv-loop line₀ held places at₀ i₀ line at i = Unit {0}

@@ -4,8 +4,6 @@ use Prim.Native.Nat.{_-_}
 use borrow.Author.Needs.{needs}
 use Rattle.compared.proofs.described.put_records.Statement.{statement}
 use Rattle.compared.proofs.described.put_records.Tie as tie
-use Rattle.compared.proofs.buffer.part.Reads as part-reads
-use Rattle.compared.proofs.described.put_record.Reads as put-record-reads
 
 abbrev Inv-loop : tie.InvT-loop
 Inv-loop line₀ held records count at₀ i₀ line at i = Unit {0}

@@ -4,8 +4,6 @@ use Prim.Native.Nat.{_-_}
 use borrow.Author.Needs.{needs}
 use Rattle.compared.proofs.described.put_variables.Statement.{statement}
 use Rattle.compared.proofs.described.put_variables.Tie as tie
-use Rattle.compared.proofs.described.at_start.Reads as at-start-reads
-use Rattle.compared.proofs.described.put_variable.Reads as put-variable-reads
 
 abbrev Inv-loop : tie.InvT-loop
 Inv-loop line₀ held values refusal at₀ i₀ line at i = Unit {0}

@@ -4,8 +4,6 @@ use Prim.Native.Nat.{_-_}
 use borrow.Author.Needs.{needs}
 use Rattle.compared.proofs.input.field.Statement.{statement}
 use Rattle.compared.proofs.input.field.Tie as tie
-use Rattle.compared.proofs.buffer.byte.Reads as byte-reads
-use Rattle.compared.proofs.buffer.if_right.Reads as if-right-reads
 
 abbrev Inv-loop : tie.InvT-loop
 Inv-loop events₀ held n width at₀ left₀ i₀ events at left i = Unit {0}

@@ -4,9 +4,6 @@ use Prim.Native.Nat.{_-_}
 use borrow.Author.Needs.{needs}
 use Rattle.compared.proofs.input.repeat.Statement.{statement}
 use Rattle.compared.proofs.input.repeat.Tie as tie
-use Rattle.compared.proofs.input.add_once.Reads as add-once-reads
-use Rattle.compared.proofs.words.kind.Reads as kind-reads
-use Rattle.compared.proofs.words.rest.Reads as rest-reads
 
 abbrev Inv-loop : tie.InvT-loop
 Inv-loop buffer₀ held times line kind rest at₀ i₀ buffer at i = Unit {0}

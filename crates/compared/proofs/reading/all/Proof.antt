@@ -5,11 +5,6 @@ use lib.ListN.{length}
 use borrow.Author.Needs.{needs}
 use Rattle.compared.proofs.reading.all.Statement.{statement}
 use Rattle.compared.proofs.reading.all.Tie as tie
-use Rattle.compared.proofs.reading.State.closed.Reads as closed-reads
-use Rattle.compared.proofs.reading.State.line.Reads as line-reads
-use Rattle.compared.proofs.reading.State.start.Reads as start-reads
-use Rattle.compared.proofs.words.next.Reads as next-reads
-use Rattle.io.proofs.large_buffer.Reads as large-buffer-reads
 
 abbrev Inv-loop : tie.InvT-loop
 Inv-loop input text₀ events₀ state₀ at₀ text events state at = Unit {0}

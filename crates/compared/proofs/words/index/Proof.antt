@@ -5,11 +5,6 @@ use lib.ListN.{length}
 use borrow.Author.Needs.{needs}
 use Rattle.compared.proofs.words.index.Statement.{statement}
 use Rattle.compared.proofs.words.index.Tie as tie
-use Rattle.compared.proofs.words.first.Reads as first-reads
-use Rattle.compared.proofs.words.from.Reads as from-reads
-use Rattle.compared.proofs.words.next.Reads as next-reads
-use Rattle.compared.proofs.words.one_more.Reads as one-more-reads
-use Rattle.compared.proofs.words.same.Reads as same-reads
 
 abbrev Inv-loop : tie.InvT-loop
 Inv-loop list word at₀ count₀ at count = Unit {0}

@@ -6,8 +6,6 @@ use lib.ListN.{length}
 use borrow.Author.Needs.{needs}
 use Rattle.compared.proofs.words.number.Statement.{statement}
 use Rattle.compared.proofs.words.number.Tie as tie
-use Rattle.compared.proofs.words.digit.Reads as digit-reads
-use Rattle.compared.proofs.words.with_digit.Reads as with-digit-reads
 
 abbrev Inv-loop : tie.InvT-loop
 Inv-loop word n₀ i₀ i-end n i = i-end ≡ length word

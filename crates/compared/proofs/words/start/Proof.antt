@@ -4,7 +4,6 @@ use Prim.Native.Nat.{_-_}
 use borrow.Author.Needs.{needs}
 use Rattle.compared.proofs.words.start.Statement.{statement}
 use Rattle.compared.proofs.words.start.Tie as tie
-use Rattle.compared.proofs.words.next_or_end.Reads as next-or-end-reads
 
 abbrev Inv-loop : tie.InvT-loop
 Inv-loop list n at₀ i₀ at i = Unit {0}
