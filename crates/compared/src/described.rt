@@ -1,16 +1,17 @@
 // What a run answered, as a line of words and numbers. A part is left out where it is as usual: a number that is 0, a place that is 0, a
-// handler that is none, a variable with the value that it has at the start. So two runs that differ have different lines. A place stands as
-// `p0=3`, a variable as `ER=104`, a user variable by its number as `32=7`, and a record as `[turn kind number value]`.
-use crate::build::BUFFER_SIZE;
-use crate::build::Buffer;
-use crate::line;
-use crate::line::Line;
+// handler that is none, a variable with the value that it has at the start; where the run is refused, all that is 0. So two runs that differ
+// have different lines. A place stands as `p0=3`, a variable as `ER=104`, a user variable by its number as `32=7`, and a record as
+// `[turn kind number value]`.
+use crate::buffer;
+use crate::buffer::BROKEN;
+use crate::buffer::Buffer;
+use crate::words;
 use bench::Ran;
 use bench::State;
 
 const NO_HANDLER: u64 = 65535;
 
-// The numbers of variables: those of the paper are below FIXED_END.
+// The names of the paper's variables, by number; there is no variable 0. User variables have no name here.
 const FIXED_END: usize = 21;
 
 const RECORD_SIZE: usize = 12;
@@ -21,33 +22,46 @@ const SHOWN: usize = 16;
 // A buffer that is lent holds this byte throughout before the call.
 pub const FILLER: u8 = 0xAA;
 
-pub fn put(line: &mut Line, held: usize, ran: Ran, records: &Buffer) -> usize {
+pub fn put(line: &mut Buffer, held: usize, ran: Ran, records: &Buffer) -> usize {
     let state = ran.state;
     let count = ran.records;
-    let mut at = line::part(line, held, b"refused", ran.number as u64, 0);
-    at = line::part(line, at, b"index", ran.index as u64, 0);
-    at = line::part(line, at, b"reason", ran.reason as u64, 0);
-    at = line::part(line, at, b"turns", ran.turns, 0);
-    at = put_state(line, at, state);
-    at = line::part(line, at, b"records", count as u64, 0);
+    let number = ran.number;
+    let mut at = put_end(line, held, number, ran.index, ran.reason, ran.turns);
+    at = put_state(line, at, state, number);
     at = put_records(line, at, records, count);
-    line::part(line, at, b"changed", changed(records, bytes_of(count)), 0)
+    put_changed(line, at, records, bytes_of(count))
 }
 
-fn put_state(line: &mut Line, held: usize, state: State) -> usize {
+fn put_end(
+    line: &mut Buffer,
+    held: usize,
+    number: u8,
+    index: usize,
+    reason: u8,
+    turns: u64,
+) -> usize {
+    let mut at = buffer::part(line, held, buffer::REFUSED, number as u64, 0);
+    at = buffer::part(line, at, buffer::INDEX, index as u64, 0);
+    at = buffer::part(line, at, buffer::REASON, reason as u64, 0);
+    buffer::part(line, at, buffer::TURNS, turns, 0)
+}
+
+fn put_state(line: &mut Buffer, held: usize, state: State, refusal: u8) -> usize {
     let places = state.places;
     let variables = state.variables;
-    let mut at = line::part(line, held, b"next", state.next as u64, 0);
-    at = line::part(line, at, b"kept", state.kept as u64, 0);
-    at = put_places(line, at, places);
-    at = line::part(line, at, b"handler", state.handler as u64, NO_HANDLER);
-    at = line::part(line, at, b"hold", state.hold as u64, 0);
-    at = line::part(line, at, b"motion", state.motion as u64, 0);
-    at = put_value(line, at, state.value);
-    put_variables(line, at, variables)
+    let mut at = put_next(line, held, state.next, state.kept);
+    at = put_places(line, at, &places);
+    at = put_handler(line, at, state.handler, refusal);
+    at = put_motion(line, at, state.hold, state.motion, state.value);
+    put_variables(line, at, &variables, refusal)
 }
 
-fn put_places(line: &mut Line, held: usize, places: [u16; 8]) -> usize {
+fn put_next(line: &mut Buffer, held: usize, next: u16, kept: u8) -> usize {
+    let at = buffer::part(line, held, buffer::NEXT, next as u64, 0);
+    buffer::part(line, at, buffer::KEPT, kept as u64, 0)
+}
+
+fn put_places(line: &mut Buffer, held: usize, places: &[u16; 8]) -> usize {
     let mut at = held;
     for i in 0..8 {
         at = put_place(line, at, i, places[i]);
@@ -55,47 +69,68 @@ fn put_places(line: &mut Line, held: usize, places: [u16; 8]) -> usize {
     at
 }
 
-fn put_place(line: &mut Line, held: usize, i: usize, place: u16) -> usize {
+fn put_place(line: &mut Buffer, held: usize, i: usize, place: u16) -> usize {
     if place == 0 {
         return held;
     }
-    let mut at = line::gap(line, held);
-    at = line::byte(line, at, b'p');
-    at = line::number(line, at, i as u64);
-    at = line::byte(line, at, b'=');
-    line::number(line, at, place as u64)
+    let mut at = buffer::bytes(line, held, b" p");
+    at = buffer::number(line, at, i as u64);
+    at = buffer::byte(line, at, b'=');
+    buffer::number(line, at, place as u64)
 }
 
-// The target or the velocity of the motion.
-fn put_value(line: &mut Line, held: usize, value: i32) -> usize {
-    if value == 0 {
-        return held;
+fn put_handler(line: &mut Buffer, held: usize, handler: u16, refusal: u8) -> usize {
+    buffer::part(
+        line,
+        held,
+        buffer::HANDLER,
+        handler as u64,
+        no_handler(refusal),
+    )
+}
+
+fn no_handler(refusal: u8) -> u64 {
+    if refusal != 0 {
+        return 0;
     }
-    let mut at = line::gap(line, held);
-    at = line::bytes(line, at, b"value ");
-    line::signed(line, at, value)
+    NO_HANDLER
 }
 
-fn put_variables(line: &mut Line, held: usize, values: [i32; 64]) -> usize {
+// The hold left, and the motion with its target or velocity.
+fn put_motion(line: &mut Buffer, held: usize, hold: u32, motion: u8, value: i32) -> usize {
+    let mut at = buffer::part(line, held, buffer::HOLD, hold as u64, 0);
+    at = buffer::part(line, at, buffer::MOTION, motion as u64, 0);
+    if value == 0 {
+        return at;
+    }
+    at = buffer::word(line, at, buffer::VALUE);
+    at = buffer::byte(line, at, b' ');
+    buffer::signed(line, at, value)
+}
+
+fn put_variables(line: &mut Buffer, held: usize, values: &[i32; 64], refusal: u8) -> usize {
     let mut at = held;
     for i in 0..64 {
-        at = put_variable(line, at, i, values[i]);
+        at = put_variable(line, at, i, values[i], at_start(i, refusal));
     }
     at
 }
 
-fn put_variable(line: &mut Line, held: usize, variable: usize, value: i32) -> usize {
-    if value == at_start(variable) {
+fn put_variable(line: &mut Buffer, held: usize, variable: usize, value: i32, usual: i32) -> usize {
+    if value == usual {
         return held;
     }
-    let mut at = line::gap(line, held);
+    let mut at = buffer::gap(line, held);
     at = put_name(line, at, variable);
-    at = line::byte(line, at, b'=');
-    line::signed(line, at, value)
+    at = buffer::byte(line, at, b'=');
+    buffer::signed(line, at, value)
 }
 
-// What a variable holds at the start, where no VA line says otherwise. Variables 3.
-fn at_start(variable: usize) -> i32 {
+// What a variable holds at the start, where no VA line says otherwise. Variables 3; Refusals 23.
+fn at_start(variable: usize, refusal: u8) -> i32 {
+    if refusal != 0 {
+        return 0;
+    }
     match variable {
         6 => 1000000,
         7 => 1000000,
@@ -105,79 +140,82 @@ fn at_start(variable: usize) -> i32 {
     }
 }
 
-fn put_name(line: &mut Line, held: usize, variable: usize) -> usize {
+fn put_name(line: &mut Buffer, held: usize, variable: usize) -> usize {
     if FIXED_END <= variable {
-        return line::number(line, held, variable as u64);
+        return buffer::number(line, held, variable as u64);
     }
-    let at = line::byte(line, held, first(variable));
-    if second(variable) == b' ' {
-        return at;
-    }
-    line::byte(line, at, second(variable))
+    let names = b"? R1 R2 R3 R4 P A D VI VM ER O1 O2 O3 MV EF I1 I2 I3 I4 IN";
+    buffer::bytes(line, held, words::nth(names, variable))
 }
 
-// The two characters of a variable's name, the second a space where there is one.
-fn first(variable: usize) -> u8 {
-    let names = b"?RRRRPADVVEOOOMEIIIII";
-    if variable < FIXED_END {
-        return names[variable];
-    }
-    b'?'
-}
-
-fn second(variable: usize) -> u8 {
-    let names = b"?1234   IMR123VF1234N";
-    if variable < FIXED_END {
-        return names[variable];
-    }
-    b'?'
-}
-
-fn put_records(line: &mut Line, held: usize, records: &Buffer, count: usize) -> usize {
-    let mut at = held;
+fn put_records(line: &mut Buffer, held: usize, records: &Buffer, count: usize) -> usize {
+    let mut at = buffer::part(line, held, buffer::RECORDS, count as u64, 0);
     for i in 0..SHOWN {
         at = put_record(line, at, records, i, count);
     }
     at
 }
 
-fn put_record(line: &mut Line, held: usize, records: &Buffer, i: usize, count: usize) -> usize {
+fn put_record(line: &mut Buffer, held: usize, records: &Buffer, i: usize, count: usize) -> usize {
     if count <= i {
         return held;
     }
-    let from = bytes_of(i);
-    let mut at = line::gap(line, held);
-    at = line::byte(line, at, b'[');
-    at = line::number(line, at, four_bytes(records, from));
-    at = line::byte(line, at, b' ');
-    at = line::number(line, at, byte_at(records, from, 4) as u64);
-    at = line::byte(line, at, b' ');
-    at = line::number(line, at, byte_at(records, from, 5) as u64);
-    at = line::byte(line, at, b' ');
-    at = put_signed(line, at, four_bytes(records, plus(from, 8)));
-    at = line::part(line, at, b"zeros", byte_at(records, from, 6) as u64, 0);
-    at = line::part(line, at, b"zeros", byte_at(records, from, 7) as u64, 0);
-    line::byte(line, at, b']')
+    let mut at = buffer::gap(line, held);
+    at = buffer::byte(line, at, b'[');
+    at = put_fields(line, at, words::from(records, bytes_of(i)));
+    buffer::byte(line, at, b']')
+}
+
+// The turn, the kind, the number and the value of a record; its zeros where they are none.
+fn put_fields(line: &mut Buffer, held: usize, record: &[u8]) -> usize {
+    let mut at = buffer::number(line, held, four_bytes(record));
+    at = put_byte(line, at, record, 4);
+    at = put_byte(line, at, record, 5);
+    at = buffer::byte(line, at, b' ');
+    at = put_signed(line, at, four_bytes(words::from(record, 8)));
+    put_zeros(line, at, record)
+}
+
+fn put_byte(line: &mut Buffer, held: usize, record: &[u8], i: usize) -> usize {
+    let at = buffer::byte(line, held, b' ');
+    buffer::number(line, at, buffer::byte_at(record, i) as u64)
+}
+
+fn put_zeros(line: &mut Buffer, held: usize, record: &[u8]) -> usize {
+    let at = buffer::part(
+        line,
+        held,
+        buffer::ZEROS,
+        buffer::byte_at(record, 6) as u64,
+        0,
+    );
+    buffer::part(
+        line,
+        at,
+        buffer::ZEROS,
+        buffer::byte_at(record, 7) as u64,
+        0,
+    )
 }
 
 // Four bytes that are read as a signed number.
-fn put_signed(line: &mut Line, held: usize, bits: u64) -> usize {
+fn put_signed(line: &mut Buffer, held: usize, bits: u64) -> usize {
     if bits < 2147483648 {
-        return line::number(line, held, bits);
+        return buffer::number(line, held, bits);
     }
     if 4294967296 <= bits {
-        return line::byte(line, held, b'?');
+        return buffer::byte(line, held, b'?');
     }
-    let at = line::byte(line, held, b'-');
-    line::number(line, at, 4294967296 - bits)
+    let at = buffer::byte(line, held, b'-');
+    buffer::number(line, at, 4294967296 - bits)
 }
 
-fn four_bytes(values: &Buffer, from: usize) -> u64 {
+fn four_bytes(values: &[u8]) -> u64 {
     number(
-        byte_at(values, from, 0),
-        byte_at(values, from, 1),
-        byte_at(values, from, 2),
-        byte_at(values, from, 3),
+        buffer::byte_at(values, 0),
+        buffer::byte_at(values, 1),
+        buffer::byte_at(values, 2),
+        buffer::byte_at(values, 3),
     )
 }
 
@@ -186,26 +224,8 @@ fn number(b0: u8, b1: u8, b2: u8, b3: u8) -> u64 {
     (b0 as u64) + (b1 as u64) * 256 + (b2 as u64) * 65536 + (b3 as u64) * 16777216
 }
 
-fn byte_at(values: &Buffer, from: usize, more: usize) -> u8 {
-    let i = plus(from, more);
-    if i < BUFFER_SIZE {
-        return values[i];
-    }
-    0
-}
-
-fn plus(a: usize, b: usize) -> usize {
-    if 65536 <= a {
-        return 65536;
-    }
-    if 65536 <= b {
-        return 65536;
-    }
-    a + b
-}
-
 // The bytes that so many records take; 0 where no run writes so many.
-pub fn bytes_of(records: usize) -> usize {
+fn bytes_of(records: usize) -> usize {
     if records < 5000 {
         return records * RECORD_SIZE;
     }
@@ -213,9 +233,9 @@ pub fn bytes_of(records: usize) -> usize {
 }
 
 // How many bytes from `from` on are no longer the filler.
-pub fn changed(values: &Buffer, from: usize) -> u64 {
+fn changed(values: &Buffer, from: usize) -> u64 {
     let mut count = 0;
-    for i in from..BUFFER_SIZE {
+    for i in from..BROKEN {
         count = counted(count, values[i]);
     }
     count
@@ -228,7 +248,12 @@ fn counted(count: u64, b: u8) -> u64 {
     one_more(count)
 }
 
-pub fn one_more(count: u64) -> u64 {
+// The count of those, where there are any.
+pub fn put_changed(line: &mut Buffer, held: usize, values: &Buffer, from: usize) -> usize {
+    buffer::part(line, held, buffer::CHANGED, changed(values, from), 0)
+}
+
+fn one_more(count: u64) -> u64 {
     if count < u64::MAX {
         return count + 1;
     }

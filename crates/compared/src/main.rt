@@ -1,18 +1,18 @@
-// Runs the bench's three calls on worked cases and compares each answer with the one that stands beside the case. A comment names the
-// sentences of the paper that decide a case, by section and number. Each case writes a line, and the last line counts them.
-mod build;
+// Reads worked cases from standard input, makes the bench's three calls on them, and compares each answer with the one that stands beside
+// its case. Each case writes a line, and the last line counts them. The head of the input says what its lines mean.
+mod answers;
+mod blocks;
+mod buffer;
 mod described;
-mod expect;
-mod images;
-mod line;
-mod runs;
-mod texts;
+mod input;
+mod reading;
+mod words;
 
-use expect::Tally;
+use libc::STDIN_FILENO;
 
 fn main() {
-    let mut tally = texts::all(Tally::start());
-    tally = images::all(tally);
-    tally = runs::all(tally);
-    tally.write();
+    let mut input = io::large_buffer();
+    let size = io::read_full(STDIN_FILENO, &mut input);
+    let state = reading::all(&input[..size]);
+    state.write();
 }

@@ -17,8 +17,8 @@ loop-holds c = search needs
 mul-put-place : tie.Need-mul-put-place Inv-loop μ-loop
 mul-put-place c = search needs
 
-array-read-put-place : tie.Need-array-read-put-place Inv-loop μ-loop
-array-read-put-place c = search needs
+element-copy-out-put-place : tie.Need-element-copy-out-put-place Inv-loop μ-loop
+element-copy-out-put-place c = search needs
 
 put-place-requires : tie.Need-put-place-requires Inv-loop μ-loop
 put-place-requires c κs = search needs
@@ -43,7 +43,7 @@ put-places-spec =
     μ-loop
     loop-holds
     mul-put-place
-    array-read-put-place
+    element-copy-out-put-place
     put-place-requires
     add-i
     loop-less

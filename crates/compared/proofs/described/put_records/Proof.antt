@@ -11,6 +11,9 @@ Inv-loop line₀ held records count at₀ i₀ line at i = Unit {0}
 abbrev μ-loop : tie.MeasureT-loop
 μ-loop line₀ held records count at₀ i₀ line at i = 16 - i
 
+part-requires : tie.Need-part-requires Inv-loop μ-loop
+part-requires c κs = search needs
+
 loop-holds : tie.Need-loop-holds Inv-loop μ-loop
 loop-holds c = search needs
 
@@ -32,4 +35,13 @@ returns c = search needs
 pub put-records-spec : {M : Type 1} → statement M
 put-records-spec =
     tie.close
-    (tie.spec Inv-loop μ-loop loop-holds put-record-requires add-i loop-less loop-again returns)
+    (tie.spec
+    Inv-loop
+    μ-loop
+    part-requires
+    loop-holds
+    put-record-requires
+    add-i
+    loop-less
+    loop-again
+    returns)

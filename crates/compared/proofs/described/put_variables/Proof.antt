@@ -6,10 +6,10 @@ use Rattle.compared.proofs.described.put_variables.Statement.{statement
 use Rattle.compared.proofs.described.put_variables.Tie as tie
 
 abbrev Inv-loop : tie.InvT-loop
-Inv-loop line₀ held values at₀ i₀ line at i = Unit {0}
+Inv-loop line₀ held values refusal at₀ i₀ line at i = Unit {0}
 
 abbrev μ-loop : tie.MeasureT-loop
-μ-loop line₀ held values at₀ i₀ line at i = 64 - i
+μ-loop line₀ held values refusal at₀ i₀ line at i = 64 - i
 
 loop-holds : tie.Need-loop-holds Inv-loop μ-loop
 loop-holds c = search needs
@@ -17,8 +17,11 @@ loop-holds c = search needs
 mul-put-variable : tie.Need-mul-put-variable Inv-loop μ-loop
 mul-put-variable c = search needs
 
-array-copy-out-put-variable : tie.Need-array-copy-out-put-variable Inv-loop μ-loop
-array-copy-out-put-variable c = search needs
+element-copy-out-put-variable : tie.Need-element-copy-out-put-variable Inv-loop μ-loop
+element-copy-out-put-variable c = search needs
+
+at-start-requires : tie.Need-at-start-requires Inv-loop μ-loop
+at-start-requires c κs = search needs
 
 put-variable-requires : tie.Need-put-variable-requires Inv-loop μ-loop
 put-variable-requires c κs = search needs
@@ -43,7 +46,8 @@ put-variables-spec =
     μ-loop
     loop-holds
     mul-put-variable
-    array-copy-out-put-variable
+    element-copy-out-put-variable
+    at-start-requires
     put-variable-requires
     add-i
     loop-less
