@@ -1,9 +1,10 @@
-// What the commands share: arguments, statuses, and files that are written.
+// What the commands share: statuses, refusals, and files that are written.
 use crate::files;
-use crate::out;
-use crate::out::Page;
-use crate::told;
+use crate::given;
 use bench::Ran;
+use libc::STDOUT_FILENO;
+use telling::Page;
+use telling::refusals;
 
 // What the tool ends with.
 pub const ACCEPTED: u8 = 0;
@@ -22,15 +23,6 @@ const SOURCE: u32 = 9;
 // The refusal of too many turns; those of an image are below it.
 const MANY_TURNS: u8 = 34;
 
-// Puts an argument into an array, and answers its length; one that is too long for a name fills the array, and names no file.
-pub fn argument(i: usize, word: &mut [u8; 4096]) -> usize {
-    let length = os::arg(i, word);
-    if os::errno() == libc::ENAMETOOLONG {
-        return 4096;
-    }
-    length
-}
-
 // Tells how a command is used.
 pub fn usage(given: &[u8], number: u32) -> u8 {
     files::complain(given, number);
@@ -39,7 +31,7 @@ pub fn usage(given: &[u8], number: u32) -> u8 {
 
 // Writes a page that is done, and answers the status.
 pub fn done(page: &Page, held: usize) -> u8 {
-    if out::finish(page, held) {
+    if io::write_all(STDOUT_FILENO, telling::held_on(page, held)) {
         return ACCEPTED;
     }
     files::trouble_with_output();
@@ -47,30 +39,40 @@ pub fn done(page: &Page, held: usize) -> u8 {
 }
 
 pub fn help() -> u8 {
-    let mut page = io::large_buffer();
-    let held = out::help(&mut page, 0);
+    let mut page = telling::page();
+    let held = telling::help(&mut page);
     done(&page, held)
 }
 
 pub fn all_words() -> u8 {
-    let mut page = io::large_buffer();
-    let held = out::all_words(&mut page, 0);
+    let mut page = telling::page();
+    let held = telling::all_words(&mut page);
     done(&page, held)
 }
 
-pub fn tell_usage() {
-    let mut page = io::large_buffer();
-    let held = out::help(&mut page, 0);
-    out::tell(&page, held);
+pub fn tell_usage() -> u8 {
+    let mut page = telling::page();
+    let held = telling::help(&mut page);
+    files::tell(&page, held);
+    TROUBLE
+}
+
+// A refusal of a file.
+pub fn refuse(path: &[u8], number: u8) -> u8 {
+    let mut page = telling::page();
+    let held = refusals::put(&mut page, path, number);
+    files::tell(&page, held);
+    REFUSED
 }
 
 // A refusal of a run, whose events were accepted: of the image, or of the turns.
 pub fn refuse_run(image: &[u8], turns: &[u8], number: u8) -> u8 {
     if number < MANY_TURNS {
-        told::refusal(image, number);
-    } else {
-        told::turns_refusal(turns, number);
+        return refuse(image, number);
     }
+    let mut page = telling::page();
+    let held = refusals::put_of_turns(&mut page, turns, number);
+    files::tell(&page, held);
     REFUSED
 }
 
@@ -82,13 +84,13 @@ pub fn start_values(image: &[u8]) -> [i32; 64] {
     state.variables
 }
 
-// How many bytes the records of a run take.
-pub fn record_bytes(ran: Ran) -> usize {
+// The records of a run at the front of a buffer.
+pub fn records_of<'a>(buffer: &'a [u8; 65536], ran: Ran) -> &'a [u8] {
     let records = ran.records;
     if machine::Event::MOST < records {
-        return 0;
+        return given::of_buffer(buffer, 0);
     }
-    machine::events::SIZE * records
+    given::of_buffer(buffer, machine::events::SIZE * records)
 }
 
 // Writes a file, unless it is the one that was read: then that would be lost.
@@ -102,25 +104,27 @@ pub fn keep(path: &[u8], source: &[u8], bytes: &[u8]) -> bool {
 
 // A name and a colon.
 pub fn put_path(page: &mut Page, path: &[u8]) -> usize {
-    let held = out::name(page, 0, path);
-    out::bytes(page, held, b": ")
+    let held = telling::name(page, 0, path);
+    telling::part(page, held, words::COLON)
 }
 
 // Tells what an image holds: its bytes, cells, labels and variables.
 pub fn tell_image(path: &[u8], image: &[u8]) -> u8 {
-    let mut page = io::large_buffer();
+    let mut page = telling::page();
     let mut held = put_path(&mut page, path);
-    held = out::number(&mut page, held, image.len() as u64);
+    held = telling::number(&mut page, held, image.len() as u64);
     held = put_counts(&mut page, held, image);
-    held = out::line_end(&mut page, held);
     done(&page, held)
 }
 
 fn put_counts(page: &mut Page, held: usize, image: &[u8]) -> usize {
-    let cells = image::cell_count(image) as u64;
-    let labels = image::label_count(image) as u64;
-    let variables = image::variable_count(image) as u64;
-    let mut at = out::part_number(page, held, words::CELLS, cells);
-    at = out::part_number(page, at, words::LABELS, labels);
-    out::part_number(page, at, words::VARIABLES, variables)
+    let mut at = telling::part_number(page, held, words::CELLS, image::cell_count(image) as u64);
+    at = telling::part_number(page, at, words::LABELS, image::label_count(image) as u64);
+    at = telling::part_number(
+        page,
+        at,
+        words::VARIABLES,
+        image::variable_count(image) as u64,
+    );
+    telling::line_end(page, at)
 }

@@ -1,6 +1,7 @@
-// Files: read into an array, and written whole or not at all.
-use crate::out;
-use crate::parts;
+// Files: read into an array, and written whole or not at all. What goes wrong is told.
+use libc::STDERR_FILENO;
+use telling::Page;
+use telling::refusals;
 ghost use Rattle.io.specs.Counts.{Counts};
 
 // How a file was read: how many bytes of the room it fills, and whether it could not be read.
@@ -9,9 +10,8 @@ pub struct Contents {
     pub failed: bool,
 }
 
-// A file that is being written, under a name of its own.
+// A file that is being written: the length of its name, and its descriptor.
 struct Part {
-    name: [u8; 4096],
     length: usize,
     file: i32,
 }
@@ -19,26 +19,37 @@ struct Part {
 // What is wrong with a file that cannot be replaced.
 const NOT_PLAIN: u32 = 10;
 
-// How many such names are tried.
+// How many names are tried for a file that is being written.
 const MOST_PARTS: u8 = 10;
 
+// Writes what a page holds to standard error.
+pub fn tell(page: &Page, held: usize) {
+    io::write_all(STDERR_FILENO, telling::held_on(page, held));
+}
+
+// Tells what is wrong with a word or a file that was given.
+pub fn complain(given: &[u8], number: u32) {
+    let mut page = telling::page();
+    let held = refusals::put_of_use(&mut page, given, number);
+    tell(&page, held);
+}
+
 // Tells which file, and what the system says of it.
-pub fn trouble(path: &[u8]) {
-    let mut page = io::large_buffer();
-    let mut held = out::part(&mut page, 0, words::PUNNET);
-    held = out::name(&mut page, held, path);
-    os::fail(parts::of_page(&page, held));
+fn trouble(path: &[u8]) {
+    let mut page = telling::page();
+    let held = refusals::put_trouble(&mut page, path);
+    os::fail(telling::held_on(&page, held));
 }
 
 // Tells that standard output could not be written.
 pub fn trouble_with_output() {
-    let mut page = io::large_buffer();
-    let mut held = out::part(&mut page, 0, words::PUNNET);
-    held = out::part(&mut page, held, words::STANDARD_OUTPUT);
-    os::fail(parts::of_page(&page, held));
+    let mut page = telling::page();
+    let held = telling::part(&mut page, 0, words::PUNNET);
+    let end = telling::part(&mut page, held, words::STANDARD_OUTPUT);
+    os::fail(telling::held_on(&page, end));
 }
 
-// Reads a file, as much of it as there is room for. What cannot be read is told.
+// Reads a file, as much of it as there is room for.
 pub fn read(path: &[u8], room: &mut [u8]) -> Contents
     ensures { λ r. ⌜ Counts (r .length) (now (room .exit)) ⌝ }
 {
@@ -77,17 +88,6 @@ fn fill(file: i32, room: &mut [u8]) -> Contents
     }
 }
 
-// Tells what is wrong with a word or a file that was given.
-pub fn complain(given: &[u8], number: u32) {
-    let mut page = io::large_buffer();
-    let mut held = out::part(&mut page, 0, words::PUNNET);
-    held = out::name(&mut page, held, given);
-    held = out::bytes(&mut page, held, b": ");
-    held = out::meaning(&mut page, held, words::USAGE, number);
-    held = out::line_end(&mut page, held);
-    out::tell(&page, held);
-}
-
 // Whether a file of this name may be replaced: there is none, or it is a plain one that may be written, as only a plain one can be synced.
 // A folder is left to the renaming. Else it is told.
 fn may_replace(path: &[u8]) -> bool {
@@ -108,35 +108,23 @@ fn may_replace(path: &[u8]) -> bool {
     synced == 0
 }
 
-// Puts the bytes at a place of a name, as far as there is room.
-fn put(name: &mut [u8; 4096], at: usize, bytes: &[u8]) -> usize {
-    let mut end = at;
-    for i in 0..bytes.len() {
-        if 4096 <= end {
-            return end;
-        }
-        name[end] = bytes[i];
-        end += 1;
-    }
-    end
+// The name of a file that is being written: `.part` and a digit behind the name that is meant.
+fn put_name(name: &mut Page, path: &[u8], k: u8) -> usize {
+    let mut length = telling::bytes(name, 0, path);
+    length = telling::part(name, length, words::UNFINISHED);
+    telling::number(name, length, k as u64)
 }
 
-// Makes a new file beside the one that is meant, `.part` and a digit behind its name; no file where each such name is taken.
-fn make_part(path: &[u8]) -> Part {
-    let mut name = io::buffer();
-    let mut k: u8 = 0;
-    while k < MOST_PARTS {
-        let end = put(&mut name, 0, path);
-        let mut length = put(&mut name, end, b".part");
-        length = put(&mut name, length, &[b'0' + k]);
-        let file = os::create(parts::of_name(&name, length));
+// Makes a new file beside the one that is meant; none where each of its names is taken.
+fn make_part(path: &[u8], name: &mut Page) -> Part {
+    for k in 0..MOST_PARTS {
+        let length = put_name(name, path, k);
+        let file = os::create(telling::held_on(name, length));
         if (0 <= file) | (os::errno() != libc::EEXIST) {
-            return Part { name, length, file };
+            return Part { length, file };
         }
-        k += 1;
     }
     Part {
-        name,
         length: 0,
         file: -1,
     }
@@ -144,8 +132,7 @@ fn make_part(path: &[u8]) -> Part {
 
 // The bytes reach the file, and it is closed.
 fn store(file: i32, bytes: &[u8]) -> bool {
-    let written = io::write_all(file, bytes);
-    if !written {
+    if !io::write_all(file, bytes) {
         return false;
     }
     if libc::fsync(file) != 0 {
@@ -154,39 +141,46 @@ fn store(file: i32, bytes: &[u8]) -> bool {
     libc::close(file) == 0
 }
 
+// The bytes reach the file of this name, which takes the place of the one that is meant.
+fn replace(file: i32, name: &[u8], path: &[u8], bytes: &[u8]) -> bool {
+    if store(file, bytes) {
+        if os::rename(name, path) == 0 {
+            return true;
+        }
+    }
+    trouble(path);
+    os::unlink(name);
+    false
+}
+
 // Writes a file whole: under another name in the same folder first, which then takes the place of what was there. Where that fails it is told,
 // and what was there stays.
 pub fn write_whole(path: &[u8], bytes: &[u8]) -> bool {
     if !may_replace(path) {
         return false;
     }
-    let part = make_part(path);
-    let name = part.name;
-    let length = part.length;
+    let mut name = telling::page();
+    let part = make_part(path, &mut name);
     if part.file < 0 {
         trouble(path);
         return false;
     }
-    if store(part.file, bytes) {
-        if os::rename(parts::of_name(&name, length), path) == 0 {
-            return true;
-        }
-    }
-    trouble(path);
-    os::unlink(parts::of_name(&name, length));
-    false
+    replace(part.file, telling::held_on(&name, part.length), path, bytes)
 }
 
 // Whether a file holds these bytes, and not the ones that are to be written there: then it is likely the file that they were read from.
 pub fn is_source(path: &[u8], source: &[u8], bytes: &[u8]) -> bool {
-    let mut room = io::large_buffer();
     let file = os::open_read(path);
     if file < 0 {
         return false;
     }
+    let mut room = io::large_buffer();
     let contents = fill(file, &mut room);
     libc::close(file);
     let length = contents.length;
-    let held = &room[..length];
-    (length != 0) & parts::same(held, source) & !parts::same(held, bytes)
+    holds(&room[..length], source, bytes)
+}
+
+fn holds(held: &[u8], source: &[u8], bytes: &[u8]) -> bool {
+    (held.len() != 0) & parts::same(held, source) & !parts::same(held, bytes)
 }

@@ -1,8 +1,7 @@
-// What a command is given besides its text or image: events and turns.
+// What a command is given: arguments, and events and turns besides its text or image.
 use crate::files;
-use crate::parts;
-use crate::scripts;
-use crate::told;
+use bench::Ran;
+use telling::refusals;
 
 // How many bytes a file of events has, whether it is a script, and then how many its events take; the status where it cannot be used.
 pub struct Given {
@@ -38,6 +37,28 @@ pub fn room() -> Room {
     [0; ROOM]
 }
 
+// The first bytes of a name, of a text, an image or records, and of a file of events.
+pub fn of_name<'a>(name: &'a [u8; 4096], length: usize) -> &'a [u8] {
+    parts::front(name, length)
+}
+
+pub fn of_buffer<'a>(buffer: &'a [u8; 65536], length: usize) -> &'a [u8] {
+    parts::front(buffer, length)
+}
+
+pub fn of_room<'a>(room: &'a Room, length: usize) -> &'a [u8] {
+    parts::front(room, length)
+}
+
+// Puts an argument into an array, and answers its length; one that is too long for a name fills the array, and names no file.
+pub fn argument(i: usize, word: &mut [u8; 4096]) -> usize {
+    let length = os::arg(i, word);
+    if os::errno() == libc::ENAMETOOLONG {
+        return 4096;
+    }
+    length
+}
+
 // The number of turns that a word gives; the most where there is no word. Digits without end are more than any run may take.
 pub fn turns(word: &[u8]) -> Budget {
     if word.len() == 0 {
@@ -69,9 +90,17 @@ fn no_events(status: u8) -> Given {
     }
 }
 
-// Reads a file of events, a script or bytes; a name that is empty or `-` is no file. What is wrong with it is told.
+// No file is meant by no name, nor by `-`.
+fn is_no_file(path: &[u8]) -> bool {
+    if path.len() == 0 {
+        return true;
+    }
+    (path.len() == 1) & (path[0] == b'-')
+}
+
+// Reads a file of events, a script or bytes. What is wrong with it is told.
 pub fn events(path: &[u8], file: &mut Room, bytes: &mut [u8; 65536]) -> Given {
-    if (path.len() == 0) | parts::same(path, b"-") {
+    if is_no_file(path) {
         return no_events(0);
     }
     let contents = files::read(path, file);
@@ -82,7 +111,7 @@ pub fn events(path: &[u8], file: &mut Room, bytes: &mut [u8; 65536]) -> Given {
         files::complain(path, LONG_FILE);
         return no_events(TROUBLE);
     }
-    of_file(path, parts::of_room(file, contents.length), bytes)
+    of_file(path, of_room(file, contents.length), bytes)
 }
 
 fn of_file(path: &[u8], file: &[u8], bytes: &mut [u8; 65536]) -> Given {
@@ -91,16 +120,18 @@ fn of_file(path: &[u8], file: &[u8], bytes: &mut [u8; 65536]) -> Given {
     }
     let script = scripts::translate(file, bytes);
     if script.fault != scripts::NO_FAULT {
-        told::script_fault(path, file, script.line, script.fault);
+        let mut page = telling::page();
+        let held = refusals::put_of_script(&mut page, path, file, script.line, script.fault);
+        files::tell(&page, held);
         return no_events(REFUSED);
     }
-    accepted(path, file, parts::of_page(bytes, script.length), true)
+    accepted(path, file, of_buffer(bytes, script.length), true)
 }
 
-// The events of a file, if a run takes them; else the refusal is told, with the line of a script or the number of an event.
+// The events of a file, if a run takes them; else the refusal is told.
 fn accepted(path: &[u8], file: &[u8], events: &[u8], is_script: bool) -> Given {
-    let number = refusal_of(events);
-    if number == 0 {
+    let ran = answer_to(events);
+    if ran.number == 0 {
         return Given {
             read: file.len(),
             length: events.len(),
@@ -108,38 +139,34 @@ fn accepted(path: &[u8], file: &[u8], events: &[u8], is_script: bool) -> Given {
             status: 0,
         };
     }
-    if number != BAD_EVENT {
-        told::refusal(path, number);
-        return no_events(REFUSED);
-    }
-    let index = index_of(events);
-    if is_script {
-        told::line_refusal(path, file, scripts::line_of_event(file, index), number);
-    } else {
-        told::event_refusal(path, index, number);
-    }
+    refuse(path, file, is_script, ran.number, ran.index);
     no_events(REFUSED)
 }
 
-// The answer to a run on these events: of the program `E`, for no turns.
-fn answer_to(events: &[u8]) -> bench::Ran {
-    let mut image = io::large_buffer();
-    let translated = bench::translate(b"E", &mut image);
+// A refusal of events: of one, with the line of a script or the number of an event in bytes; or of them all.
+fn refuse(path: &[u8], file: &[u8], is_script: bool, number: u8, index: usize) {
+    let mut page = telling::page();
+    let mut held: usize = 0;
+    if number != BAD_EVENT {
+        held = refusals::put(&mut page, path, number);
+    } else if is_script {
+        held = refusals::put_of_line(
+            &mut page,
+            path,
+            file,
+            scripts::line_of_event(file, index),
+            number,
+        );
+    } else {
+        held = refusals::put_of_event(&mut page, path, index, number);
+    }
+    files::tell(&page, held);
+}
+
+// The answer to a run on these events: of the empty program, for no turns.
+fn answer_to(events: &[u8]) -> Ran {
+    let mut image = io::buffer();
+    let translated = bench::translate(&events[..0], &mut image);
     let mut none = [0u8; 1];
-    bench::run(
-        parts::of_page(&image, translated.length),
-        events,
-        0,
-        &mut none,
-    )
-}
-
-fn refusal_of(events: &[u8]) -> u8 {
-    let ran = answer_to(events);
-    ran.number
-}
-
-fn index_of(events: &[u8]) -> usize {
-    let ran = answer_to(events);
-    ran.index
+    bench::run(of_name(&image, translated.length), events, 0, &mut none)
 }

@@ -3,22 +3,29 @@ mod commands;
 mod events;
 mod files;
 mod given;
-mod hints;
 mod images;
-mod out;
-mod parts;
-mod scripts;
-mod state;
 mod texts;
-mod told;
-mod trace;
 
 use commands::ACCEPTED;
 use commands::REFUSED;
-use commands::TROUBLE;
 
 // Where the status goes, as one digit: a descriptor that no file is opened on.
 const STATUS: i32 = 9;
+
+// The commands, by their numbers in the table of words.
+const TRY: u32 = 1;
+
+const TRANSLATE: u32 = 2;
+
+const CHECK: u32 = 3;
+
+const RUN: u32 = 4;
+
+const EVENTS: u32 = 5;
+
+const WORDS: u32 = 6;
+
+const HELP: u32 = 7;
 
 fn digit(status: u8) -> u8 {
     if status == ACCEPTED {
@@ -30,29 +37,65 @@ fn digit(status: u8) -> u8 {
     b'2'
 }
 
-// Does what a command says, by its number in the table of words, with so many arguments.
-fn work(number: u32, command: &[u8], count: usize) -> u8 {
-    match number {
-        1 => texts::try_command(command, count),
-        2 => texts::translate_command(command, count),
-        3 => images::check_command(command, count),
-        4 => images::run_command(command, count),
-        5 => events::events_command(command, count),
-        6 => commands::all_words(),
-        7 => commands::help(),
-        _ => commands::usage(command, commands::NO_COMMAND),
+// Whether a command takes so many arguments: the fewest and the most, with the program's name and its own among them.
+fn takes(command: u32, count: usize) -> bool {
+    match command {
+        TRY => (3 <= count) & (count <= 5),
+        TRANSLATE => count == 4,
+        CHECK => count == 3,
+        RUN => (5 <= count) & (count <= 6),
+        EVENTS => count == 4,
+        _ => true,
     }
+}
+
+// Does what a command says with its arguments.
+fn work(command: u32, a: &[u8], b: &[u8], c: &[u8], d: &[u8]) -> u8 {
+    match command {
+        TRY => texts::try_command(a, b, c),
+        TRANSLATE => texts::translate_command(a, b),
+        CHECK => images::check_command(a),
+        RUN => images::run_command(a, b, c, d),
+        EVENTS => events::events_command(a, b),
+        WORDS => commands::all_words(),
+        _ => commands::help(),
+    }
+}
+
+// Reads the arguments of a command.
+fn with_arguments(command: u32) -> u8 {
+    let mut first = io::buffer();
+    let mut second = io::buffer();
+    let mut third = io::buffer();
+    let mut fourth = io::buffer();
+    let a = given::argument(2, &mut first);
+    let b = given::argument(3, &mut second);
+    let c = given::argument(4, &mut third);
+    let d = given::argument(5, &mut fourth);
+    work(
+        command,
+        given::of_name(&first, a),
+        given::of_name(&second, b),
+        given::of_name(&third, c),
+        given::of_name(&fourth, d),
+    )
 }
 
 fn start(count: usize) -> u8 {
     if count < 2 {
-        commands::tell_usage();
-        return TROUBLE;
+        return commands::tell_usage();
     }
     let mut word = io::buffer();
-    let length = commands::argument(1, &mut word);
-    let command = parts::of_name(&word, length);
-    work(words::number_for(words::COMMAND, command), command, count)
+    let length = given::argument(1, &mut word);
+    let name = given::of_name(&word, length);
+    let command = words::number_for(words::COMMAND, name);
+    if command == 0 {
+        return commands::usage(name, commands::NO_COMMAND);
+    }
+    if !takes(command, count) {
+        return commands::usage(name, command);
+    }
+    with_arguments(command)
 }
 
 fn main() {

@@ -5,24 +5,19 @@ use crate::commands::REFUSED;
 use crate::commands::TROUBLE;
 use crate::files;
 use crate::given;
-use crate::parts;
-use crate::scripts;
-use crate::state;
-use crate::told;
-use crate::trace;
 use bench::Ran;
-
-const TRY: u32 = 1;
-
-const TRANSLATE: u32 = 2;
+use telling::refusals;
+use telling::state;
+use telling::trace;
 
 // A refusal of a text: of a line of it, or of the whole.
 fn refuse(path: &[u8], text: &[u8], line: usize, number: u8) -> u8 {
     if line == 0 {
-        told::refusal(path, number);
-    } else {
-        told::line_refusal(path, text, line, number);
+        return commands::refuse(path, number);
     }
+    let mut page = telling::page();
+    let held = refusals::put_of_line(&mut page, path, text, line, number);
+    files::tell(&page, held);
     REFUSED
 }
 
@@ -33,22 +28,11 @@ fn is_count(word: &[u8]) -> bool {
 }
 
 // try TEXT [EVENTS] [TURNS]: a lone word of digits behind the text is the turns.
-pub fn try_command(command: &[u8], count: usize) -> u8 {
-    if (count < 3) | (5 < count) {
-        return commands::usage(command, TRY);
+pub fn try_command(path: &[u8], events: &[u8], turns: &[u8]) -> u8 {
+    if (turns.len() == 0) & is_count(events) {
+        return try_turns(path, turns, events);
     }
-    let mut first = io::buffer();
-    let mut second = io::buffer();
-    let mut third = io::buffer();
-    let text = commands::argument(2, &mut first);
-    let events = commands::argument(3, &mut second);
-    let turns = commands::argument(4, &mut third);
-    let path = parts::of_name(&first, text);
-    let word = parts::of_name(&second, events);
-    if (count == 4) & is_count(word) {
-        return try_turns(path, &word[..0], word);
-    }
-    try_turns(path, word, parts::of_name(&third, turns))
+    try_turns(path, events, turns)
 }
 
 fn try_turns(path: &[u8], events: &[u8], word: &[u8]) -> u8 {
@@ -67,7 +51,7 @@ fn try_file(path: &[u8], events: &[u8], word: &[u8], turns: u64) -> u8 {
     }
     try_script(
         path,
-        parts::of_page(&text, contents.length),
+        given::of_buffer(&text, contents.length),
         events,
         word,
         turns,
@@ -83,8 +67,8 @@ fn try_script(path: &[u8], text: &[u8], events: &[u8], word: &[u8], turns: u64) 
     }
     let script = parts::either(
         read.is_script,
-        parts::of_page(&bytes, read.length),
-        parts::of_room(&file, read.read),
+        given::of_buffer(&bytes, read.length),
+        given::of_room(&file, read.read),
     );
     try_with(path, text, script, word, turns)
 }
@@ -104,9 +88,9 @@ fn try_with(path: &[u8], text: &[u8], events: &[u8], word: &[u8], turns: u64) ->
     }
     tell(
         text,
-        parts::of_page(&image, translated.length),
+        given::of_buffer(&image, translated.length),
         events,
-        parts::of_page(&records, commands::record_bytes(ran)),
+        commands::records_of(&records, ran),
         turns,
         ran,
     )
@@ -114,43 +98,54 @@ fn try_with(path: &[u8], text: &[u8], events: &[u8], word: &[u8], turns: u64) ->
 
 // Tells a run turn by turn, and how it ended.
 fn tell(text: &[u8], image: &[u8], events: &[u8], records: &[u8], turns: u64, ran: Ran) -> u8 {
-    let mut room = io::large_buffer();
-    let mut visits = io::large_buffer();
-    let taken = tried::visit_text(text, &mut room, events, turns, &mut visits);
-    let mut page = io::large_buffer();
-    let mut held = trace::put(&mut page, text, image, events, records, &visits, taken);
+    let mut page = telling::page();
+    let mut held = put_turns(&mut page, text, image, events, records, turns);
     held = state::put(&mut page, held, image, ran, commands::start_values(image));
     commands::done(&page, held)
 }
 
-// translate TEXT IMAGE
-pub fn translate_command(command: &[u8], count: usize) -> u8 {
-    if count != 4 {
-        return commands::usage(command, TRANSLATE);
-    }
-    let mut first = io::buffer();
-    let mut second = io::buffer();
-    let text = commands::argument(2, &mut first);
-    let image = commands::argument(3, &mut second);
-    translate_file(parts::of_name(&first, text), parts::of_name(&second, image))
+fn put_turns(
+    page: &mut telling::Page,
+    text: &[u8],
+    image: &[u8],
+    events: &[u8],
+    records: &[u8],
+    turns: u64,
+) -> usize {
+    let mut room = io::large_buffer();
+    let mut visits = io::large_buffer();
+    let taken = tried::visit_text(text, &mut room, events, turns, &mut visits);
+    let mut lines = trace::no_lines();
+    trace::put_lines(&mut lines, text);
+    trace::put(
+        page,
+        text,
+        trace::all_lines(&lines),
+        image,
+        events,
+        records,
+        given::of_buffer(&visits, 65536),
+        taken,
+    )
 }
 
-fn translate_file(path: &[u8], to: &[u8]) -> u8 {
+// translate TEXT IMAGE
+pub fn translate_command(path: &[u8], to: &[u8]) -> u8 {
     let mut room = io::large_buffer();
     let contents = files::read(path, &mut room);
     if contents.failed {
         return TROUBLE;
     }
-    translate_text(path, parts::of_page(&room, contents.length), to)
+    translate(path, given::of_buffer(&room, contents.length), to)
 }
 
-fn translate_text(path: &[u8], text: &[u8], to: &[u8]) -> u8 {
+fn translate(path: &[u8], text: &[u8], to: &[u8]) -> u8 {
     let mut room = io::large_buffer();
     let translated = bench::translate(text, &mut room);
     if translated.number != 0 {
         return refuse(path, text, translated.line, translated.number);
     }
-    let image = parts::of_page(&room, translated.length);
+    let image = given::of_buffer(&room, translated.length);
     if !commands::keep(to, text, image) {
         return TROUBLE;
     }

@@ -54,16 +54,26 @@ pub const START: u32 = 14;
 
 pub const COLUMN: u32 = 15;
 
-pub const EVENT: u32 = 16;
+pub const COLON: u32 = 16;
 
-pub const TURNS_ASKED: u32 = 17;
+pub const EQUALS: u32 = 17;
+
+pub const CUT: u32 = 18;
+
+pub const ESCAPE: u32 = 19;
+
+pub const UNFINISHED: u32 = 20;
+
+pub const EVENT: u32 = 21;
+
+pub const TURNS_ASKED: u32 = 22;
 
 // The bytes of the table, those of its lines for people, its lines, and the bytes of the longest line with its end.
-const SIZE: usize = 3288;
+const SIZE: usize = 3353;
 
 pub const FOR_PEOPLE: usize = 2609;
 
-const LINE_COUNT: usize = 87;
+const LINE_COUNT: usize = 92;
 
 pub const LONGEST: usize = 76;
 
@@ -152,8 +162,13 @@ part 12: outputs:
 part 13: changed: 
 part 14:  (start 
 part 15:     column 
-part 16: event 
-part 17:  turns: 
+part 16: : 
+part 17:  = 
+part 18:  ..
+part 19: \\x
+part 20: .part
+part 21: event 
+part 22:  turns: 
 ";
 
 pub const HELP_SIZE: usize = 1364;

@@ -6,37 +6,19 @@ use Rattle.punnet.proofs.files.make_part.Statement.{statement}
 use Rattle.punnet.proofs.files.make_part.Tie as tie
 
 abbrev Inv-loop : tie.InvT-loop
-Inv-loop path name₀ k₀ t7 name k = Unit {0}
+Inv-loop path name₀ k₀ name k = Unit {0}
 
 abbrev μ-loop : tie.MeasureT-loop
-μ-loop path name₀ k₀ t7 name k = 10 - k
-
-buffer-requires : tie.Need-buffer-requires Inv-loop μ-loop
-buffer-requires c κs = search needs
+μ-loop path name₀ k₀ name k = 10 - k
 
 loop-holds : tie.Need-loop-holds Inv-loop μ-loop
 loop-holds c = search needs
 
-put-requires : tie.Need-put-requires Inv-loop μ-loop
-put-requires c κs = search needs
+put-name-requires : tie.Need-put-name-requires Inv-loop μ-loop
+put-name-requires c κs = search needs
 
-slice-aggregate-put : tie.Need-slice-aggregate-put Inv-loop μ-loop
-slice-aggregate-put c = search needs
-
-put-requires-2 : tie.Need-put-requires-2 Inv-loop μ-loop
-put-requires-2 c κs = search needs
-
-add-t16 : tie.Need-add-t16 Inv-loop μ-loop
-add-t16 c = search needs
-
-slice-aggregate-put-2 : tie.Need-slice-aggregate-put-2 Inv-loop μ-loop
-slice-aggregate-put-2 c = search needs
-
-put-requires-3 : tie.Need-put-requires-3 Inv-loop μ-loop
-put-requires-3 c κs = search needs
-
-of-name-requires : tie.Need-of-name-requires Inv-loop μ-loop
-of-name-requires c κs = search needs
+held-on-requires : tie.Need-held-on-requires Inv-loop μ-loop
+held-on-requires c κs = search needs
 
 create-requires : tie.Need-create-requires Inv-loop μ-loop
 create-requires c κs = search needs
@@ -65,15 +47,9 @@ make-part-spec =
     (tie.spec
     Inv-loop
     μ-loop
-    buffer-requires
     loop-holds
-    put-requires
-    slice-aggregate-put
-    put-requires-2
-    add-t16
-    slice-aggregate-put-2
-    put-requires-3
-    of-name-requires
+    put-name-requires
+    held-on-requires
     create-requires
     errno-requires
     returns

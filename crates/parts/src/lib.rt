@@ -1,0 +1,129 @@
+// Parts of bytes: lines of a text, and words of a line.
+
+// The first so many bytes; none where there are fewer.
+pub fn front<'a>(bytes: &'a [u8], count: usize) -> &'a [u8] {
+    if bytes.len() < count {
+        return &bytes[..0];
+    }
+    &bytes[..count]
+}
+
+// The bytes behind the first so many; none where there are fewer.
+pub fn back<'a>(bytes: &'a [u8], count: usize) -> &'a [u8] {
+    if bytes.len() < count {
+        return &bytes[..0];
+    }
+    &bytes[count..]
+}
+
+// The bytes from one place to before another; none where these are no places in order.
+pub fn between<'a>(bytes: &'a [u8], start: usize, end: usize) -> &'a [u8] {
+    back(front(bytes, end), start)
+}
+
+// One of two.
+pub fn either<'a>(first: bool, a: &'a [u8], b: &'a [u8]) -> &'a [u8] {
+    if first { a } else { b }
+}
+
+pub fn same(a: &[u8], b: &[u8]) -> bool {
+    if a.len() != b.len() {
+        return false;
+    }
+    let mut i: usize = 0;
+    while i < a.len() {
+        if b.len() <= i {
+            return false;
+        }
+        if a[i] != b[i] {
+            return false;
+        }
+        i += 1;
+    }
+    true
+}
+
+// The line of a text with this number, from 1, without its ending; empty where there is none.
+pub fn line<'a>(text: &'a [u8], number: usize) -> &'a [u8] {
+    let mut at: usize = 0;
+    let mut k: usize = 1;
+    while at < text.len() {
+        let span = text::line_at(text, at);
+        if k == number {
+            return between(text, at, span.end);
+        }
+        k += 1;
+        at = span.next;
+    }
+    &text[..0]
+}
+
+pub fn is_blank(b: u8) -> bool {
+    (b == b' ') | (b == b'\t')
+}
+
+// How many blanks a line begins with.
+pub fn blanks(line: &[u8]) -> usize {
+    let mut i: usize = 0;
+    while i < line.len() {
+        if !is_blank(line[i]) {
+            return i;
+        }
+        i += 1;
+    }
+    i
+}
+
+// How many bytes a line has before its first blank.
+fn unbroken(line: &[u8]) -> usize {
+    let mut i: usize = 0;
+    while i < line.len() {
+        if is_blank(line[i]) {
+            return i;
+        }
+        i += 1;
+    }
+    i
+}
+
+// A line from its first word on.
+fn begun<'a>(line: &'a [u8]) -> &'a [u8] {
+    back(line, blanks(line))
+}
+
+// The first word of a line; empty where it has none.
+pub fn word<'a>(line: &'a [u8]) -> &'a [u8] {
+    let rest = begun(line);
+    front(rest, unbroken(rest))
+}
+
+// What stands behind the first word.
+pub fn behind<'a>(line: &'a [u8]) -> &'a [u8] {
+    let rest = begun(line);
+    back(rest, unbroken(rest))
+}
+
+// How many bytes a line has up to its last that is no blank.
+fn used(line: &[u8]) -> usize {
+    let mut count: usize = 0;
+    let mut i: usize = 0;
+    while i < line.len() {
+        let b = line[i];
+        i += 1;
+        if !is_blank(b) {
+            count = i;
+        }
+    }
+    count
+}
+
+// A line without its comment.
+pub fn code<'a>(line: &'a [u8]) -> &'a [u8] {
+    front(line, text::tokens::code_length(line))
+}
+
+// A line without its comment, and without the blanks around what is left.
+pub fn uncommented<'a>(line: &'a [u8]) -> &'a [u8] {
+    let rest = begun(code(line));
+    front(rest, used(rest))
+}
