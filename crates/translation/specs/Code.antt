@@ -1,5 +1,6 @@
 -- What the code's loops do, step by step. No demand reaches this; proofs/ ties it to the paper's definitions.
 -- Assumes nothing.
+use mathlib.Core.Path.{_≡_}
 use mathlib.Core.Bool.{cond}
 use mathlib.Core.List.{List, [], _∷_, _++_}
 use Prim.Native.Nat.{ℕ, _+_, _≤_}
@@ -10,11 +11,16 @@ use Rattle.numbers.specs.Bytes.{bytes}
 use Rattle.numbers.specs.Bits.{digits32}
 use Rattle.program.specs.Code.{nameOf}
 use Rattle.text.specs.Forms.{Line}
-use Rattle.text.specs.Faults.{placeOf, numberOf}
+use Rattle.text.specs.Faults.{placeOf, numberOf, firstFault}
 use Rattle.text.specs.Code.{resolved}
 use Rattle.text.specs.declared.forms.Reading.{Reading}
 use Rattle.image.specs.Layout.{cellBytes}
 use Rattle.translation.specs.declared.Places.{Places}
+
+-- A text that is not too long and has no fault.
+pub record Faultless (s : List ℕ) : Type 0 where
+  pub short : length s ≤ 16384
+  pub clear : firstFault s .number ≡ 0
 
 -- Each x puts f x, g x and h x into the buffer, behind what the ones before it put there.
 module _ {A : Type 0} (f g h : A → List ℕ) where
