@@ -193,15 +193,23 @@ static const u8 *line_next(const u8 *at, const u8 *end) {
 
 struct found { u8 kind; u32 cells, variables; };
 
-/* The first line that declares a name, sought from the front. */
+/* The kind that a line has by its first word, if it has no fault. */
+static u8 head(struct cursor *c) {
+    if (done(c) || *c->at == '\'') return BLANK;
+    u16 first = word(c);
+    return first == KEY('L', 'B') ? LABEL : first == KEY('V', 'A') ? DECLARED : ACTS;
+}
+
+/* The first line that declares a name, sought from the front by the first two words of each line. The counts are right in a text without a fault. */
 static struct found find(const u8 *text, const u8 *end, u16 name) {
     struct found f = { 0 };
     while (text < end) {
         const u8 *stop = line_end(text, end);
-        struct line l = read_line(text, stop);
-        if ((l.kind == LABEL || l.kind == DECLARED) && l.name == name) { f.kind = l.kind; return f; }
-        f.cells += l.kind == ACTS;
-        f.variables += l.kind == DECLARED;
+        struct cursor c = { text, stop, 0 };
+        u8 kind = head(&c);
+        if ((kind == LABEL || kind == DECLARED) && word(&c) == name && (f.kind = read_line(text, stop).kind)) return f;
+        f.cells += kind == ACTS;
+        f.variables += kind == DECLARED;
         text = line_next(stop, end);
     }
     return f;
