@@ -113,10 +113,13 @@ int main(int count, char **words) {
     u8 *end = text;
     for (u32 b = 0; b < BLOCKS; b++) end = put_block(end, b);
     for (u32 k = 0; k < TURNS; k++) put_event(events + EVENT * k, k);
-    for (const char *p = count == 3 ? words[2] : ""; '0' <= *p && *p <= '9'; p++) n = n * 10 + (*p - '0');
-    if (count == 3 && same(words[1], "translate")) sum = translate_times(n);
-    else if (count == 3 && same(words[1], "check")) { translate(text, TEXT, image, sizeof image); sum = check_times(n); }
-    else if (count == 3 && same(words[1], "run")) { translate(text, TEXT, image, sizeof image); sum = run_times(n); }
+    const char *digit = count == 3 ? words[2] : "";
+    int good = *digit != 0;
+    for (; '0' <= *digit && *digit <= '9' && n < 100000000; digit++) n = n * 10 + (*digit - '0');
+    good &= *digit == 0;
+    if (good && same(words[1], "translate")) sum = translate_times(n);
+    else if (good && same(words[1], "check")) { translate(text, TEXT, image, sizeof image); sum = check_times(n); }
+    else if (good && same(words[1], "run")) { translate(text, TEXT, image, sizeof image); sum = run_times(n); }
     else { write(2, usage, sizeof usage - 1); return 0; }
     line[--at] = '\n';
     do line[--at] = '0' + sum % 10; while (sum /= 10);

@@ -4,7 +4,7 @@ use mathlib.Core.Path.{_≡_, refl, sym, ap, ap₂, subst, _∙_}
 use mathlib.Core.Bool.{Bool, true, false, cond, _&&_, _||_, not}
 use mathlib.Core.List.{List, [], _∷_, _++_}
 use mathlib.Core.Option.{Option, none, some}
-use Prim.Native.Nat.{ℕ, zero, suc, _+_, _*_, _<_, _≤_}
+use Prim.Native.Nat.{ℕ, suc, _+_, _*_, _<_, _≤_}
 use native.Mathlib.Omega.{arith}
 use borrow.Author.Tests.{eqb-true, eq-eqb, ne-eqb}
 use lib.Dec.{T, eqb, eqb→eq}
@@ -12,21 +12,19 @@ use lib.IntN.{ℤ, pos}
 use lib.ListN.{length, take, drop, getD, drop-of-length-le}
 use lib.Seq.{drop-cons, drop-drop}
 use Rattle.numbers.specs.Bytes.{ascii, number, field}
-use Rattle.numbers.specs.Tests.{eqList}
-use Rattle.numbers.specs.Tests.{numbered, all, any, lowest}
+use Rattle.numbers.specs.Tests.{eqList, numbered, all, any, lowest}
 use Rattle.program.specs.Names.{Name, letter, digit, wordCharacter, mnemonics, variableNames, paperVariable, reserved, twoCharacters, userName}
 use Rattle.program.specs.Code.{key}
 use Rattle.program.specs.Statements.{Statement}
 use Rattle.program.proofs.Keys.{both, eqList-eq, IsWord, single, double}
 use Rattle.text.specs.Forms as Form
-use Rattle.text.specs.Forms.{Line, Blank, Label, Declared, Acts, variableName, Parts, noParts, named, starting, literal, put, Slot, Is, New, Target, Written, Left, Right, Start, Operator, Comparison, takesWord, takesFirst, takes, fill, form, forms, byForm, statement, reading}
+use Rattle.text.specs.Forms.{Line, Blank, Label, Declared, Acts, variableName, Parts, noParts, named, Slot, Is, New, Written, Start, takesWord, takesFirst, takes, fill, form, forms, byForm, statement, reading}
 use Rattle.text.specs.Faults.{longLine, badForm, bigLiteral, reservedName, bigIn, declares, heard}
 use Rattle.text.specs.Code.{saidBy, readingOf}
 use Rattle.text.proofs.Words.{variable-word}
 use Rattle.text.proofs.Filling.{goOn}
 use Rattle.text.proofs.Rows.{HoldsAt, Filled, done, step, nothing, started, filled}
-use Rattle.text.specs.Tokens.{printable}
-use Rattle.text.specs.Tokens.{Token, uncommented, joins, longer, tokens}
+use Rattle.text.specs.Tokens.{printable, Token, uncommented, joins, longer, tokens}
 use Rattle.text.proofs.Packing.{joins-space}
 use Rattle.names.specs.Code.{spaces, head, kindBy, keyAfter, headBy, headOf, declaring}
 

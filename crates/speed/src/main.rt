@@ -16,6 +16,11 @@ const RECORD_BYTES: usize = build::EVENT * TURNS;
 // The longest argument that is read.
 const WORD: usize = 16;
 
+// How many words the program is started with, its own name among them.
+const WORDS: usize = 3;
+
+const MOST_DIGITS: usize = 9;
+
 const FIRST_SUM: u64 = 1;
 
 // Two words with the same bytes.
@@ -31,7 +36,26 @@ fn is_same(a: &[u8], b: &[u8]) -> bool {
     true
 }
 
-// The number that some digits write; other bytes, and digits that no number has room for, are passed over.
+// The name of one of the calls.
+fn is_call(word: &[u8]) -> bool {
+    is_same(word, b"translate") | is_same(word, b"check") | is_same(word, b"run")
+}
+
+fn is_digit(b: u8) -> bool {
+    (b'0' <= b) & (b <= b'9')
+}
+
+// One to nine digits.
+fn is_count(word: &[u8]) -> bool {
+    for i in 0..word.len() {
+        if !is_digit(word[i]) {
+            return false;
+        }
+    }
+    (0 < word.len()) & (word.len() <= MOST_DIGITS)
+}
+
+// The number that digits write; one that there is no room for is passed over.
 fn number(word: &[u8]) -> u64 {
     let mut n: u64 = 0;
     for i in 0..word.len() {
@@ -42,9 +66,6 @@ fn number(word: &[u8]) -> u64 {
 
 fn with_digit(n: u64, digit: u8) -> u64 {
     if digit < b'0' {
-        return n;
-    }
-    if b'9' < digit {
         return n;
     }
     if 1000000000 <= n {
@@ -82,7 +103,7 @@ fn write_sum(sum: u64) {
     io::write_all(STDOUT_FILENO, b"\n");
 }
 
-// Makes the call so many times; the text's image is made once before, where the call takes an image.
+// Makes the call so many times. The text's image is made once before, where the call takes an image.
 fn repeat(call: &[u8], times: u64, text: &[u8], image: &mut [u8]) {
     if is_same(call, b"translate") {
         write_sum(translate(times, text, image));
@@ -93,11 +114,7 @@ fn repeat(call: &[u8], times: u64, text: &[u8], image: &mut [u8]) {
         write_sum(check(times, image));
         return;
     }
-    if is_same(call, b"run") {
-        repeat_run(times, image);
-        return;
-    }
-    io::write_all(STDERR_FILENO, b"usage: speed translate|check|run N\n");
+    repeat_run(times, image);
 }
 
 fn repeat_run(times: u64, image: &[u8]) {
@@ -107,18 +124,22 @@ fn repeat_run(times: u64, image: &[u8]) {
     write_sum(run(times, image, build::front(&events, held), &mut records));
 }
 
+// The call by its name, on the largest program.
+fn measure(call: &[u8], times: u64) {
+    let mut text = io::large_buffer();
+    let mut image = [0u8; LONGEST_IMAGE];
+    let held = build::text(&mut text);
+    repeat(call, times, build::front(&text, held), &mut image);
+}
+
 fn main() {
     let mut call = [0u8; WORD];
     let mut times = [0u8; WORD];
-    let mut text = io::large_buffer();
-    let mut image = [0u8; LONGEST_IMAGE];
     let n = os::arg(1, &mut call);
     let m = os::arg(2, &mut times);
-    let held = build::text(&mut text);
-    repeat(
-        &call[..n],
-        number(&times[..m]),
-        build::front(&text, held),
-        &mut image,
-    );
+    if (os::arg_count() == WORDS) & is_call(&call[..n]) & is_count(&times[..m]) {
+        measure(&call[..n], number(&times[..m]));
+        return;
+    }
+    io::write_all(STDERR_FILENO, b"usage: speed translate|check|run N\n");
 }

@@ -1,6 +1,6 @@
 -- `check` is safe and ends: each turn leaves fewer.
 -- Assumes nothing.
-use Prim.Native.Nat.{_≤_, _-_}
+use Prim.Native.Nat.{_-_}
 use borrow.Author.Needs.{needs}
 use Rattle.speed.proofs.check.Statement.{statement}
 use Rattle.speed.proofs.check.Tie as tie

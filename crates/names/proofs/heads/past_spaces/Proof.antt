@@ -1,6 +1,6 @@
 -- `past_spaces` meets its contract. The loop's invariant: the spaces from here on end where those from the start do.
 -- Assumes nothing.
-use Prim.Native.Nat.{_≤_, _+_, _-_}
+use Prim.Native.Nat.{_+_, _-_}
 use denote.Ref.{now}
 use lib.ListN.{length, drop}
 use mathlib.Core.Path.{_≡_, refl, sym, _∙_}

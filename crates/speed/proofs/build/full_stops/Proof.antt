@@ -1,6 +1,6 @@
 -- `full_stops` is safe and ends: each turn leaves fewer.
 -- Assumes nothing.
-use Prim.Native.Nat.{_≤_, _-_}
+use Prim.Native.Nat.{_-_}
 use borrow.Author.Needs.{needs}
 use Rattle.speed.proofs.build.full_stops.Statement.{statement}
 use Rattle.speed.proofs.build.full_stops.Tie as tie
