@@ -24,17 +24,16 @@ use Rattle.text.specs.declared.forms.Reading.{Reading}
 use Rattle.text.proofs.Words.{variable-word}
 use Rattle.text.proofs.Rows.{Known, Named}
 use Rattle.text.proofs.Heard.{Fine, heard-fine, line-fault, repeated-asked, too-many-asked, undeclared-asked, read-only-asked}
-use Rattle.names.specs.declared.Found.{Found}
 use Rattle.names.specs.declared.Counts.{Counts}
-use Rattle.names.specs.Code.{FoundAt, KeyOperand, Keyed, declaring, unknownTarget, unknownWritten, unknownOperand, unknownCell, readOnlyKey, repeatedKey, tooManyBy, countsOf, faultBy}
+use Rattle.names.specs.Code.{DeclaredAs, KeyOperand, Keyed, declaring, unknownTarget, unknownWritten, unknownOperand, unknownCell, readOnlyKey, repeatedKey, tooManyBy, countsOf, faultBy}
 
 -- A variable: of the paper's; sought.
 pub paper-known : (text : List Line) (k n : ℕ) → n ≡ paperVariable (nameOf k) → (n ≡ 0 → ⊥) → false ≡ unknownVariable text (nameOf k)
 unfolding unknownVariable
 paper-known text k n e h = rw (← e, ne-eqb n 0 h)
 
-pub variable-sought : (s : List ℕ) (k n : ℕ) (f : Found) → n ≡ paperVariable (nameOf k) → n ≡ 0 → FoundAt s k f
-    → not (eqb (f .kind) 2) ≡ unknownVariable (said s) (nameOf k)
+pub variable-sought : (s : List ℕ) (k n f : ℕ) → n ≡ paperVariable (nameOf k) → n ≡ 0 → DeclaredAs s k f
+    → not (eqb f 2) ≡ unknownVariable (said s) (nameOf k)
 unfolding unknownVariable
 variable-sought s k n f e h a = rw (← e, h, a .variable)
 
@@ -48,7 +47,7 @@ no-target text k h = pick (eqb k 0) (eqb k 65535) h
     pick false true h = refl
     pick false false h = absurd (let q : _≡_ {A = ℕ} 0 1 = cc in omega arith)
 
-pub target-sought : (s : List ℕ) (k : ℕ) (f : Found) → (eqb k 0 || eqb k 65535) ≡ false → FoundAt s k f → not (eqb (f .kind) 1) ≡ unknownTarget (said s) k
+pub target-sought : (s : List ℕ) (k f : ℕ) → (eqb k 0 || eqb k 65535) ≡ false → DeclaredAs s k f → not (eqb f 1) ≡ unknownTarget (said s) k
 unfolding unknownTarget noTarget
 target-sought s k f h a = rw (a .label) (pick (eqb k 0) (eqb k 65535) h)
   where
@@ -62,7 +61,7 @@ pub keyed-variable : (o : Operand) (k : ℕ) → o ≡ O.Variable k → KeyOpera
 keyed-variable o k e h = rw e at h
 
 -- A name that a line before declares.
-pub name-sought : (s : List ℕ) (kind k : ℕ) (f : Found) → declaring kind ≡ true → FoundAt s k f → not (eqb (f .kind) 0) ≡ repeatedKey (said s) kind k
+pub name-sought : (s : List ℕ) (kind k f : ℕ) → declaring kind ≡ true → DeclaredAs s k f → not (eqb f 0) ≡ repeatedKey (said s) kind k
 unfolding repeatedKey
 name-sought s kind k f d a = rw (d, a .none) (Bool·not-not (any (declaresIt (nameOf k)) (said s)))
 

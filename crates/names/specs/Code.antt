@@ -5,7 +5,8 @@ use mathlib.Core.Bool.{Bool, cond, _&&_, _||_, not}
 use mathlib.Core.List.{List, [], _∷_}
 use Prim.Native.Nat.{ℕ, suc, _≤_, _<_}
 use lib.Dec.{eqb, leb}
-use lib.ListN.{length}
+use lib.ListN.{length, take, drop}
+use Rattle.numbers.specs.Bytes.{number}
 use Rattle.numbers.specs.Tests.{any, lowest}
 use Rattle.program.specs.Names.{paperVariable}
 use Rattle.program.specs.Variables.{readOnly, mostCells, mostLabels, mostVariables}
@@ -15,14 +16,15 @@ use Rattle.program.specs.declared.Operand.{Operand}
 use Rattle.program.specs.declared.Operand.the-variants as O
 use Rattle.text.specs.Forms.{Line}
 use Rattle.text.specs.Faults.{said, firstFault, declaresIt, count, makesCell, makesLabel, makesVariable, firstMakes, placeOf, rankOf, unknownVariable, unknownValue}
-use Rattle.text.specs.Code.{saidBy, aimsAt, inOperand}
+use Rattle.text.specs.Code.{saidBy, readingOf, aimsAt, inOperand}
 use Rattle.text.specs.declared.forms.Reading.{Reading}
 use Rattle.names.specs.declared.Found.{Found}
 use Rattle.names.specs.declared.Counts.{Counts}
+use Rattle.names.specs.declared.heads.Head.{Head}
 use Rattle.names.specs.declared.Survey.{Survey}
 
-abbrev pub found : ℕ → ℕ → ℕ → Found
-found kind cells variables = record { kind = kind; cells = cells; variables = variables }
+abbrev pub found : ℕ → ℕ → Found
+found cells variables = record { cells = cells; variables = variables }
 
 -- A line of this kind declares a name.
 unfoldable pub declaring : ℕ → Bool
@@ -32,19 +34,55 @@ declaring kind = eqb kind 1 || eqb kind 2
 unfoldable pub plus : Bool → ℕ → ℕ
 plus b n = cond b (suc n) n
 
--- The first of these lines that declares the name with this key, with so many cells and variables before them.
+-- How many spaces a line starts with.
+unfoldable pub spaces : List ℕ → ℕ
+spaces [] = 0
+spaces (c ∷ cs) = let more = suc (spaces cs) in cond (eqb c 32) more 0
+
+-- What a line seems to say by its first two words: a kind, by the first character and the key of the first two; and a name's key.
+abbrev pub head : ℕ → ℕ → Head
+head kind name = record { kind = kind; name = name }
+
+unfoldable pub kindBy : ℕ → ℕ → ℕ
+kindBy c word = cond (eqb c 39) 0 (cond (eqb word 16972) 1 (cond (eqb word 16726) 2 3))
+
+unfoldable pub keyAfter : List ℕ → ℕ
+keyAfter l = number (take 2 (drop (spaces l) l))
+
+unfoldable pub headBy : List ℕ → Head
+headBy [] = head 0 0
+headBy (c ∷ cs) = head (kindBy c (number (take 2 (c ∷ cs)))) (keyAfter (drop 1 cs))
+
+unfoldable pub headOf : List ℕ → Head
+headOf l = headBy (drop (spaces l) l)
+
+-- The kind of a line that declares the name with this key, 0 for any other; and of the first of these lines that does.
+unfoldable pub declaredIn : List ℕ → ℕ → ℕ
+declaredIn l k = let r = readingOf l in cond (declaring (r .kind) && eqb (r .name) k) (r .kind) 0
+
+unfoldable pub kindFrom : ℕ → List Line → ℕ
+kindFrom k [] = 0
+kindFrom k (x ∷ xs) =
+    let r = saidBy x in
+    let more = kindFrom k xs in
+    cond (declaring (r .kind) && eqb (r .name) k) (r .kind) more
+
+-- What is before the first of these lines that declares the name with this key, with so many cells and variables before them all.
 unfoldable pub foundFrom : ℕ → ℕ → ℕ → List Line → Found
-foundFrom k cells variables [] = found 0 cells variables
+foundFrom k cells variables [] = found cells variables
 foundFrom k cells variables (x ∷ xs) =
     let r = saidBy x in
     let more = foundFrom k (plus (eqb (r .kind) 3) cells) (plus (eqb (r .kind) 2) variables) xs in
-    cond (declaring (r .kind) && eqb (r .name) k) (found (r .kind) cells variables) more
+    cond (declaring (r .kind) && eqb (r .name) k) (found cells variables) more
 
--- What seeking a name in a text finds: the paper's tests and places, and no more than the text has bytes.
+-- As what a text first declares a name, by the paper's tests.
+pub record DeclaredAs (s : List ℕ) (k kind : ℕ) : Type 0 where
+  pub label : eqb kind 1 ≡ firstMakes makesLabel (nameOf k) (said s)
+  pub variable : eqb kind 2 ≡ firstMakes makesVariable (nameOf k) (said s)
+  pub none : eqb kind 0 ≡ not (any (declaresIt (nameOf k)) (said s))
+
+-- What seeking a name in a text finds: the paper's places, and no more than the text has bytes.
 pub record FoundAt (s : List ℕ) (k : ℕ) (f : Found) : Type 0 where
-  pub label : eqb (f .kind) 1 ≡ firstMakes makesLabel (nameOf k) (said s)
-  pub variable : eqb (f .kind) 2 ≡ firstMakes makesVariable (nameOf k) (said s)
-  pub none : eqb (f .kind) 0 ≡ not (any (declaresIt (nameOf k)) (said s))
   pub place : f .cells ≡ placeOf (said s) (nameOf k)
   pub rank : f .variables ≡ rankOf (said s) (nameOf k)
   pub few-cells : f .cells ≤ length s

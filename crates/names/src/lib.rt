@@ -2,18 +2,18 @@
 ghost use mathlib.Core.Path.{_≡_};
 ghost use Prim.Native.Nat.{_<_};
 ghost use Rattle.program.specs.Code.{nameOf};
-ghost use Rattle.text.specs.Faults.{said, unknownVariable};
-ghost use Rattle.names.specs.Code.{FoundAt, Surveyed, Keyed, KeyOperand, Below, plus, declaring, unknownTarget, unknownWritten, unknownOperand, unknownCell, readOnlyKey, repeatedKey, tooManyBy, counted, faultBy};
+ghost use Rattle.text.specs.Faults.{said, unknownVariable, firstFault};
+ghost use Rattle.names.specs.Code.{FoundAt, DeclaredAs, declaredIn, Surveyed, Keyed, KeyOperand, Below, plus, declaring, unknownTarget, unknownWritten, unknownOperand, unknownCell, readOnlyKey, repeatedKey, tooManyBy, counted, faultBy};
 use program::Cell;
 use program::Operand;
 use program::Variable;
 use text::Fault;
 use text::forms::Reading;
 
-// The first line that declares a name: its kind, that of a reading, BLANK where there is no such line;
-// and how many cells and variables the lines before it make.
+pub mod heads;
+
+// How many cells and variables the lines make before the first one that declares a name.
 pub struct Found {
-    pub kind: u8,
     pub cells: usize,
     pub variables: usize,
 }
@@ -63,8 +63,41 @@ fn is_declaring(kind: u8) -> bool
     (kind == Reading::LABEL) | (kind == Reading::DECLARED)
 }
 
-// The first line that declares the name with this key, sought from the front of the text.
+// The kind of a line that declares the name with this key; BLANK for any other. Only a line with such a head is read whole.
+fn declared_in(l: &[u8], key: u16) -> u8
+    ensures { λ r. ⌜ r ≡ declaredIn (now (l .entry)) key ⌝ }
+{
+    let head = heads::line_head(l);
+    if !(is_declaring(head.kind) & (head.name == key)) {
+        return Reading::BLANK;
+    }
+    let reading = text::read_line(l);
+    if is_declaring(reading.kind) & (reading.name == key) {
+        return reading.kind;
+    }
+    Reading::BLANK
+}
+
+// The kind of the first line that declares the name with this key, sought from the front of the text; BLANK where there is no such line.
+fn declared_as(s: &[u8], key: u16) -> u8
+    ensures { λ r. ⌜ DeclaredAs (now (s .entry)) key r ⌝ }
+{
+    let mut at: usize = 0;
+    while at < s.len() {
+        let span = text::line_at(s, at);
+        let end = span.end;
+        let kind = declared_in(&s[at..end], key);
+        if kind != Reading::BLANK {
+            return kind;
+        }
+        at = span.next;
+    }
+    Reading::BLANK
+}
+
+// The first line that declares the name with this key, sought from the front of a text without a fault: the heads of its lines tell enough.
 pub fn find(s: &[u8], key: u16) -> Found
+    requires { ⌜ firstFault (now s) .number ≡ 0 ⌝ }
     ensures { λ r. ⌜ FoundAt (now (s .entry)) key r ⌝ }
 {
     let mut cells: usize = 0;
@@ -73,24 +106,16 @@ pub fn find(s: &[u8], key: u16) -> Found
     while at < s.len() {
         let span = text::line_at(s, at);
         let end = span.end;
-        let reading = text::read_line(&s[at..end]);
-        let kind = reading.kind;
-        if is_declaring(kind) & (reading.name == key) {
-            return Found {
-                kind,
-                cells,
-                variables,
-            };
+        let head = heads::line_head(&s[at..end]);
+        let kind = head.kind;
+        if is_declaring(kind) & (head.name == key) {
+            return Found { cells, variables };
         }
         cells = more_if(kind == Reading::ACTS, cells);
         variables = more_if(kind == Reading::DECLARED, variables);
         at = span.next;
     }
-    Found {
-        kind: Reading::BLANK,
-        cells,
-        variables,
-    }
+    Found { cells, variables }
 }
 
 // No variable of the paper's, and not first declared as a variable.
@@ -100,8 +125,7 @@ fn is_unknown_variable(s: &[u8], key: u16) -> bool
     if program::names::variable_number(key) != 0 {
         return false;
     }
-    let found = find(s, key);
-    found.kind != Reading::DECLARED
+    declared_as(s, key) != Reading::DECLARED
 }
 
 // A cell jumps to a name that is not first declared as a label.
@@ -111,8 +135,7 @@ fn is_unknown_target(s: &[u8], target: u16) -> bool
     if (target == NO_NAME) | (target == Cell::NO_HANDLER) {
         return false;
     }
-    let found = find(s, target);
-    found.kind != Reading::LABEL
+    declared_as(s, target) != Reading::LABEL
 }
 
 fn is_unknown_written(s: &[u8], key: u16) -> bool
@@ -163,8 +186,7 @@ fn is_repeated(before: &[u8], kind: u8, name: u16) -> bool
     if !is_declaring(kind) {
         return false;
     }
-    let found = find(before, name);
-    found.kind != Reading::BLANK
+    declared_as(before, name) != Reading::BLANK
 }
 
 // A line of this kind makes one thing too many, behind lines with these counts.

@@ -12,13 +12,18 @@ use Rattle.numbers.specs.Bits.{digits32}
 use Rattle.program.specs.Code.{nameOf}
 use Rattle.text.specs.Lines.{lines}
 use Rattle.text.specs.Forms.{Line}
-use Rattle.text.specs.Faults.{said, placeOf, numberOf}
+use Rattle.text.specs.Faults.{said, placeOf, numberOf, firstFault}
 use Rattle.text.specs.Code.{resolved}
 use Rattle.text.specs.declared.forms.Reading.{Reading}
 use Rattle.image.specs.Layout.{cellBytes}
 use Rattle.translation.specs.declared.Places.{Places}
 use Rattle.translation.specs.declared.Placed.{Placed}
 use Rattle.translation.specs.Places.{lineOf, lineBytes}
+
+-- A text that is not too long and has no fault.
+pub record Faultless (s : List ℕ) : Type 0 where
+  pub short : length s ≤ 16384
+  pub clear : firstFault s .number ≡ 0
 
 -- Each x puts f x, g x and h x into the buffer, behind what the ones before it put there.
 module _ {A : Type 0} (f g h : A → List ℕ) where

@@ -9,7 +9,7 @@ ghost use Rattle.text.specs.Code.{placed, written, operandWith, resolved};
 ghost use Rattle.names.specs.Code.{Keyed, KeyOperand, countsOf};
 ghost use Rattle.image.specs.Layout.{imageLength};
 ghost use Rattle.translation.specs.Images.{cellPart, labelPart, variablePart, imageOf};
-ghost use Rattle.translation.specs.Code.{emitFrom, emittedBy, placesBy, Within, fewer, PlacedAt};
+ghost use Rattle.translation.specs.Code.{emitFrom, emittedBy, placesBy, Within, fewer, Faultless, PlacedAt};
 use names::Counts;
 use program::Cell;
 use program::Operand;
@@ -35,7 +35,7 @@ const NO_NAME: u16 = 0;
 
 // The number of the variable with this key: the paper's, or behind those by the user's declarations.
 fn number_of(s: &[u8], key: u16) -> u16
-    requires { ⌜ length (now s) ≤ 16384 ⌝ }
+    requires { ⌜ Faultless (now s) ⌝ }
     ensures { λ r. ⌜ r ≡ numberOf (said (now (s .entry))) (nameOf key) ⌝ }
 {
     let number = program::names::variable_number(key);
@@ -48,7 +48,7 @@ fn number_of(s: &[u8], key: u16) -> u16
 
 // The place of the label with this key: how many cells stand before it.
 fn place_of(s: &[u8], key: u16) -> u16
-    requires { ⌜ length (now s) ≤ 16384 ⌝ }
+    requires { ⌜ Faultless (now s) ⌝ }
     ensures { λ r. ⌜ r ≡ placeOf (said (now (s .entry))) (nameOf key) ⌝ }
 {
     let found = names::find(s, key);
@@ -56,7 +56,7 @@ fn place_of(s: &[u8], key: u16) -> u16
 }
 
 fn resolve_target(s: &[u8], target: u16) -> u16
-    requires { ⌜ length (now s) ≤ 16384 ⌝ }
+    requires { ⌜ Faultless (now s) ⌝ }
     ensures { λ r. ⌜ r ≡ placed (placeOf (said (now (s .entry)))) target ⌝ }
 {
     if (target == NO_NAME) | (target == Cell::NO_HANDLER) {
@@ -66,7 +66,7 @@ fn resolve_target(s: &[u8], target: u16) -> u16
 }
 
 fn resolve_written(s: &[u8], key: u16) -> u16
-    requires { ⌜ length (now s) ≤ 16384 ⌝ }
+    requires { ⌜ Faultless (now s) ⌝ }
     ensures { λ r. ⌜ r ≡ written (numberOf (said (now (s .entry)))) key ⌝ }
 {
     if key == NO_NAME {
@@ -76,7 +76,7 @@ fn resolve_written(s: &[u8], key: u16) -> u16
 }
 
 fn resolve_operand(s: &[u8], operand: Operand) -> Operand
-    requires { ⌜ length (now s) ≤ 16384 ⌝ }
+    requires { ⌜ Faultless (now s) ⌝ }
     requires { ⌜ KeyOperand operand ⌝ }
     ensures { λ r. ⌜ r ≡ operandWith (numberOf (said (now (s .entry)))) operand ⌝ }
 {
@@ -89,7 +89,7 @@ fn resolve_operand(s: &[u8], operand: Operand) -> Operand
 
 // A cell with the places and the numbers of its names in their stead.
 fn resolve(s: &[u8], cell: Cell) -> Cell
-    requires { ⌜ length (now s) ≤ 16384 ⌝ }
+    requires { ⌜ Faultless (now s) ⌝ }
     requires { ⌜ Keyed cell ⌝ }
     ensures { λ r. ⌜ r ≡ resolved (placeOf (said (now (s .entry)))) (numberOf (said (now (s .entry)))) cell ⌝ }
 {
@@ -111,7 +111,7 @@ fn resolve(s: &[u8], cell: Cell) -> Cell
 
 // Puts what a line of the text says at its place, and tells the places behind it.
 fn emit_line(s: &[u8], buffer: &mut [u8], reading: Reading, places: Places) -> Places
-    requires { ⌜ length (now s) ≤ 16384 ⌝ }
+    requires { ⌜ Faultless (now s) ⌝ }
     requires { ⌜ Keyed (reading .cell) ⌝ }
     requires { ⌜ Within 4294967296 places ⌝ }
     ensures { λ r. ⌜ (r ≡ placesBy (said (now (s .entry))) reading places) × (now (buffer .exit) ≡ emittedBy (said (now (s .entry))) reading places (now (buffer .entry))) ⌝ }
@@ -144,7 +144,7 @@ fn emit_line(s: &[u8], buffer: &mut [u8], reading: Reading, places: Places) -> P
 
 // Puts what the lines of the text say behind one another, from these places on.
 fn emit_lines(s: &[u8], buffer: &mut [u8], start: Places)
-    requires { ⌜ length (now s) ≤ 16384 ⌝ }
+    requires { ⌜ Faultless (now s) ⌝ }
     requires { ⌜ Within 65536 start ⌝ }
     ensures { λ r. ⌜ now (buffer .exit) ≡ emitFrom (cellPart (said (now (s .entry)))) (labelPart (said (now (s .entry)))) variablePart (start .cell) (start .label) (start .variable) (said (now (s .entry))) (now (buffer .entry)) ⌝ }
 {

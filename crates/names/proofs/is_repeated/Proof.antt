@@ -16,14 +16,14 @@ returns : tie.Need-returns
 unfolding repeatedKey
 returns c = rw (sym (c .before .is-declaring .ensures) ∙ not-true _ (c .if1 .taken))
 
-find-requires : tie.Need-find-requires
-find-requires c κs = search needs
+declared-as-requires : tie.Need-declared-as-requires
+declared-as-requires c κs = search needs
 
 returns-2 : tie.Need-returns-2
 returns-2 c =
-    let d = c .before .before .before in
+    let d = c .before .before in
     let s = d .before .before in
-    name-sought (now (s .args .before)) (s .args .kind) (s .args .name) (c .before .find .result) (sym (d .is-declaring .ensures) ∙ not-false _ (c .before .before .if1 .left)) (c .before .find .ensures)
+    name-sought (now (s .args .before)) (s .args .kind) (s .args .name) (c .declared-as .result) (sym (d .is-declaring .ensures) ∙ not-false _ (c .before .if1 .left)) (c .declared-as .ensures)
 
 pub is-repeated-spec : {M : Type 1} → statement M
-is-repeated-spec = tie.close (tie.spec is-declaring-requires returns find-requires returns-2)
+is-repeated-spec = tie.close (tie.spec is-declaring-requires returns declared-as-requires returns-2)

@@ -16,15 +16,15 @@ returns c =
     let s = v .before .before in
     paper-known (said (now (s .args .s))) (s .args .key) (v .variable-number .result) (v .variable-number .ensures) (c .if1 .taken)
 
-find-requires : tie.Need-find-requires
-find-requires c κs = search needs
+declared-as-requires : tie.Need-declared-as-requires
+declared-as-requires c κs = search needs
 
 returns-2 : tie.Need-returns-2
 returns-2 c =
-    let v = c .before .before .before in
+    let v = c .before .before in
     let s = v .before .before in
-    variable-sought (now (s .args .s)) (s .args .key) (v .variable-number .result) (c .before .find .result) (v .variable-number .ensures) (c .before .before .if1 .left) (c .before .find .ensures)
+    variable-sought (now (s .args .s)) (s .args .key) (v .variable-number .result) (c .declared-as .result) (v .variable-number .ensures) (c .before .if1 .left) (c .declared-as .ensures)
 
 pub is-unknown-variable-spec : {M : Type 1} → statement M
 is-unknown-variable-spec =
-    tie.close (tie.spec variable-number-requires returns find-requires returns-2)
+    tie.close (tie.spec variable-number-requires returns declared-as-requires returns-2)

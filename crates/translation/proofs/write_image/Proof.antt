@@ -33,7 +33,7 @@ emit-lines-requires c κs =
     let v = c .before in
     let l = v .before in
     let s = l .before .before .before .before .before .before in (
-      s .pre .0,
+      record { short = s .pre .0; clear = s .pre .1 .0 },
       places-near (now (s .args .s)) (s .args .counts) (s .pre .1 .1 .0) (l .label-place .result) (v .variable-place .result) (s .pre .1 .0) (l .label-place .ensures) (v .variable-place .ensures),
     )
 

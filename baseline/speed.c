@@ -1,0 +1,128 @@
+/* Repeats one of the calls on the largest program and prints a checksum: the same work, and the same line, as the program `speed`. */
+#include "bench.h"
+
+enum { TEXT = 16384, TURNS = 4096, EVENT = 12, BLOCKS = 32, CELL_LINE = 37, NAME_LINE = 36 };
+
+long write(int file, const void *bytes, unsigned long count);
+
+static u8 text[TEXT], image[5008], events[EVENT * TURNS], records[EVENT * TURNS];
+
+/* A line of this width: a statement with one name in it, and a comment. */
+static u8 *put_line(u8 *at, const char *before, char letter, u32 number, const char *after, u32 width) {
+    u8 *last = at + width - 1;
+    while (*before) *at++ = *before++;
+    *at++ = letter;
+    *at++ = number < 26 ? 'A' + number : '0' + (number - 26);
+    while (*after) *at++ = *after++;
+    *at++ = ' ';
+    *at++ = '\'';
+    while (at < last) *at++ = '.';
+    *at++ = '\n';
+    return at;
+}
+
+static u8 *put_middle(u8 *at, u32 b) {
+    switch (b % 4) {
+    case 0: return put_line(at, "", 'U', (b + 11) % BLOCKS, "=R1&255", CELL_LINE);
+    case 1: return put_line(at, "MR ", 'U', b, "", CELL_LINE);
+    case 2: return put_line(at, "R2=", 'U', b, "/3", CELL_LINE);
+    }
+    return put_line(at, "R3=", 'U', b, "^5", CELL_LINE);
+}
+
+static u8 *put_block(u8 *at, u32 b) {
+    at = put_line(at, "VA ", 'U', b, "=7", NAME_LINE);
+    at = put_line(at, "LB ", 'G', b, "", NAME_LINE);
+    at = put_line(at, "IC ", 'U', b, "", CELL_LINE);
+    at = put_line(at, "LB ", 'J', b, "", NAME_LINE);
+    at = put_line(at, "R1=", 'U', b, "*3", CELL_LINE);
+    at = put_line(at, "O1=", 'U', b, "&1", CELL_LINE);
+    at = put_line(at, "LB ", 'K', b, "", NAME_LINE);
+    at = put_line(at, "BR ", 'Q', b, ",IN>=8", CELL_LINE);
+    at = put_middle(at, b);
+    at = put_line(at, "LB ", 'Q', b, "", NAME_LINE);
+    at = put_line(at, "PR ", 'U', b, "", CELL_LINE);
+    at = put_line(at, "LB ", 'W', b, "", NAME_LINE);
+    at = put_line(at, "BR ", 'G', b, ",R1<30", CELL_LINE);
+    return put_line(at, "BR ", 'G', (b + 13) % BLOCKS, "", CELL_LINE);
+}
+
+static void put_event(u8 *at, u32 k) {
+    u32 kind = k % 16 == 7 ? 2 : k % 16 == 15 ? 3 : 1;
+    u32 value = kind == 1 ? k / 16 % 2 : kind == 3 ? 3 * k : 0;
+    at[0] = k % 256;
+    at[1] = k / 256;
+    at[4] = kind;
+    at[5] = kind == 1 ? 1 + k % 4 : 0;
+    at[8] = value % 256;
+    at[9] = value / 256;
+}
+
+static u64 mixed(u64 sum, u64 x) { return (sum * 31 + x) % 4294967291u; }
+
+static u64 mixed_bytes(u64 sum, const u8 *bytes, u32 count) {
+    for (u32 i = 0; i < count; i++) sum = mixed(sum, bytes[i]);
+    return sum;
+}
+
+static u64 signless(i32 z) { return (u64)((i64)z + 2147483648ll); }
+
+static u64 mixed_state(u64 sum, const struct state *s) {
+    sum = mixed(mixed(sum, s->next), s->kept);
+    for (u32 i = 0; i < 8; i++) sum = mixed(sum, s->places[i]);
+    sum = mixed(mixed(mixed(mixed(sum, s->handler), s->hold), s->motion), signless(s->value));
+    for (u32 i = 0; i < 64; i++) sum = mixed(sum, signless(s->variables[i]));
+    return sum;
+}
+
+static u64 translate_times(u32 n) {
+    u64 sum = 1;
+    while (n--) {
+        struct translated t = translate(text, TEXT, image, sizeof image);
+        sum = mixed(mixed(mixed(sum, t.number), t.line), t.length);
+    }
+    return mixed_bytes(sum, image, sizeof image);
+}
+
+static u64 check_times(u32 n) {
+    u64 sum = 1;
+    while (n--) sum = mixed(sum, check(image, sizeof image));
+    return mixed_bytes(sum, image, sizeof image);
+}
+
+static u64 run_times(u32 n) {
+    u64 sum = 1;
+    while (n--) {
+        struct ran r = run(image, sizeof image, events, sizeof events, TURNS, records, sizeof records);
+        sum = mixed(mixed(mixed(mixed(mixed(sum, r.number), r.index), r.reason), r.turns), r.records);
+        sum = mixed_state(sum, &r.state);
+    }
+    return mixed_bytes(sum, records, sizeof records);
+}
+
+static int same(const char *a, const char *b) {
+    while (*a && *a == *b) a++, b++;
+    return *a == *b;
+}
+
+int main(int count, char **words) {
+    static const char usage[] = "usage: speed translate|check|run N\n";
+    char line[24];
+    u32 n = 0, at = sizeof line;
+    u64 sum;
+    u8 *end = text;
+    for (u32 b = 0; b < BLOCKS; b++) end = put_block(end, b);
+    for (u32 k = 0; k < TURNS; k++) put_event(events + EVENT * k, k);
+    const char *digit = count == 3 ? words[2] : "";
+    int good = *digit != 0;
+    for (; '0' <= *digit && *digit <= '9' && n < 100000000; digit++) n = n * 10 + (*digit - '0');
+    good &= *digit == 0;
+    if (good && same(words[1], "translate")) sum = translate_times(n);
+    else if (good && same(words[1], "check")) { translate(text, TEXT, image, sizeof image); sum = check_times(n); }
+    else if (good && same(words[1], "run")) { translate(text, TEXT, image, sizeof image); sum = run_times(n); }
+    else { write(2, usage, sizeof usage - 1); return 0; }
+    line[--at] = '\n';
+    do line[--at] = '0' + sum % 10; while (sum /= 10);
+    write(1, line + at, sizeof line - at);
+    return 0;
+}

@@ -1,0 +1,83 @@
+// Checksums: each number is mixed into the sum of those before it.
+use bench::Checked;
+use bench::Ran;
+use bench::State;
+use bench::Translated;
+
+const MODULUS: u64 = 4294967291;
+
+const FACTOR: u64 = 31;
+
+fn mixed(sum: u64, n: u64) -> u64 {
+    ((sum % MODULUS) * FACTOR + n % MODULUS) % MODULUS
+}
+
+// A number with a sign, moved up so that the lowest is 0.
+fn signless(z: i32) -> u64 {
+    if z < 0 {
+        2147483647 - ((!z) as u64)
+    } else {
+        2147483648 + (z as u64)
+    }
+}
+
+fn wide(b: u8) -> u64 {
+    b as u64
+}
+
+pub fn bytes(start: u64, values: &[u8]) -> u64 {
+    let mut sum = start;
+    for i in 0..values.len() {
+        sum = mixed(sum, wide(values[i]));
+    }
+    sum
+}
+
+pub fn translated(sum: u64, answer: Translated) -> u64 {
+    let first = mixed(sum, answer.number as u64);
+    let second = mixed(first, answer.line as u64);
+    mixed(second, answer.length as u64)
+}
+
+pub fn checked(sum: u64, answer: Checked) -> u64 {
+    mixed(sum, answer.number as u64)
+}
+
+pub fn ran(start: u64, answer: Ran) -> u64 {
+    let end = answer.state;
+    let mut sum = mixed(start, answer.number as u64);
+    sum = mixed(sum, answer.index as u64);
+    sum = mixed(sum, answer.reason as u64);
+    sum = mixed(sum, answer.turns);
+    sum = mixed(sum, answer.records as u64);
+    state(sum, end)
+}
+
+fn state(start: u64, end: State) -> u64 {
+    let kept = end.places;
+    let values = end.variables;
+    let mut sum = mixed(start, end.next as u64);
+    sum = mixed(sum, end.kept as u64);
+    sum = places(sum, kept);
+    sum = mixed(sum, end.handler as u64);
+    sum = mixed(sum, end.hold as u64);
+    sum = mixed(sum, end.motion as u64);
+    sum = mixed(sum, signless(end.value));
+    variables(sum, values)
+}
+
+fn places(start: u64, values: [u16; 8]) -> u64 {
+    let mut sum = start;
+    for i in 0..8 {
+        sum = mixed(sum, values[i] as u64);
+    }
+    sum
+}
+
+fn variables(start: u64, values: [i32; 64]) -> u64 {
+    let mut sum = start;
+    for i in 0..64 {
+        sum = mixed(sum, signless(values[i]));
+    }
+    sum
+}
