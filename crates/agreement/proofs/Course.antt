@@ -8,10 +8,10 @@ use Rattle.program.specs.Cells.{same, statementOf}
 use Rattle.text.specs.Forms.{Line}
 use Rattle.text.specs.Faults.{said, count, makesCell, placeOf, numberOf}
 use Rattle.image.specs.Layout.{cellCount, cellAt, startValues}
+use Rattle.effects.specs.declared.Effect.{Effect}
+use Rattle.effects.specs.Effects.{effect}
 use Rattle.machine.specs.declared.Machine.{Machine}
-use Rattle.machine.specs.declared.Effect.{Effect}
 use Rattle.machine.specs.declared.Event.{Event}
-use Rattle.machine.specs.Effects.{effect}
 use Rattle.machine.specs.Turn.{startMachine}
 use Rattle.machine.specs.Run.{runFrom}
 use Rattle.running.specs.Visits.{visitsFrom}

@@ -9,8 +9,8 @@ use lib.Dec.{eqb, eqb→eq}
 use lib.IntN.{ℤ}
 use Rattle.program.specs.Statements.{Value, Literal, Variable, Always, Compare, Statement, Set, SetWith, IC, DC, BR, CL, RT, E, H, Hold, OE, Disarm, MA, MR, SL, PR}
 use Rattle.program.specs.Cells.{same, cell, operandOf, jumpOf, cellOf, valueOf, conditionOf, holdOf, statementBy, statementOf, noTarget}
-use Rattle.machine.specs.declared.Effect.the-variants.{Arms}
-use Rattle.machine.specs.Effects.{value, holds, printing, branching, callingIf, effect}
+use Rattle.effects.specs.declared.Effect.the-variants.{Arms}
+use Rattle.effects.specs.Effects.{value, holds, printing, branching, callingIf, effect}
 
 -- The comparison of a condition has a number from 1 on.
 abbrev pub Selected : {R : Type 0} → Statement R → Type 0

@@ -12,8 +12,8 @@ use Rattle.numbers.specs.Tests.{anyBelow, eqList, numbered}
 use Rattle.program.specs.Names.{Name, twoCharacters, userName}
 use Rattle.text.specs.Tokens.{Token}
 use Rattle.text.specs.Forms.{Slot, Is, New, Target, Written, Left, Right, Start, Operator, Comparison, Parts, Taken, takes, takesFirst, takesWord, operators, comparisons, variableName}
+use Rattle.effects.specs.declared.Effect.{Effect}
 use Rattle.machine.specs.declared.Machine.{Machine}
-use Rattle.machine.specs.declared.Effect.{Effect}
 use Rattle.machine.specs.declared.Event.{Event}
 use Rattle.machine.specs.Turn.{turn}
 use Rattle.machine.specs.Events.{eventAt, eventCount, badEvent, badEvents, goodEvent, recordBytes}

@@ -15,7 +15,7 @@ use Rattle.program.specs.Variables as Variables
 use Rattle.image.specs.Check as Check
 use Rattle.image.specs.Check.{checked}
 use Rattle.image.specs.Layout as Layout
-use Rattle.machine.specs.Effects as Effects
+use Rattle.effects.specs.Effects as Effects
 use Rattle.machine.specs.Events as Events
 use Rattle.machine.specs.Events.{badScript, badEvents}
 use Rattle.machine.specs.Run as R

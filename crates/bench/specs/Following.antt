@@ -5,9 +5,9 @@ use Prim.Native.Nat.{ℕ}
 use Rattle.text.specs.Forms.{Line}
 use Rattle.text.specs.Faults.{said, count, makesCell, placeOf, numberOf}
 use Rattle.translation.specs.Places.{lineAt, starts}
+use Rattle.effects.specs.declared.Effect.{Effect}
+use Rattle.effects.specs.Effects.{effect}
 use Rattle.machine.specs.declared.Machine.{Machine}
-use Rattle.machine.specs.declared.Effect.{Effect}
-use Rattle.machine.specs.Effects.{effect}
 use Rattle.machine.specs.Turn.{startMachine}
 use Rattle.machine.specs.Events.{events}
 use Rattle.machine.specs.Run.{Course, runFrom}

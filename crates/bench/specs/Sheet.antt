@@ -19,7 +19,7 @@ use Rattle.text.specs.Lines as Lines
 use Rattle.text.specs.Tokens as Tokens
 use Rattle.image.specs.Check as Check
 use Rattle.image.specs.Layout as Layout
-use Rattle.machine.specs.Effects as Effects
+use Rattle.effects.specs.Effects as Effects
 use Rattle.machine.specs.Events as Events
 use Rattle.machine.specs.Run as Run
 use Rattle.machine.specs.Turn as Turn

@@ -13,17 +13,18 @@ use lib.Seq.{sets, set-out, getD-set-same, getD-set-other}
 use Rattle.numbers.specs.Tests.{between, eqZ}
 use Rattle.program.specs.Variables.{range, inRange, rangeOf, literals, startVariables, allInputs}
 use Rattle.program.specs.Statements.{Statement}
+use Rattle.effects.specs.declared.Effect.{Effect}
+use Rattle.effects.specs.declared.Effect.the-variants.{Fails, Stores, Passes, Goes, Calls, Returns, Ends, Stays, Holds, Arms, Moves, Slews, Prints}
+use Rattle.effects.specs.Effects.{read, effect}
+use Rattle.effects.proofs.Sound.{Sound, sound}
 use Rattle.machine.specs.declared.Machine.{Machine}
 use Rattle.machine.specs.declared.Motion.{Motion}
 use Rattle.machine.specs.declared.Motion.the-variants.{Still, To, Slewing}
 use Rattle.machine.specs.declared.Event.{Event}
-use Rattle.machine.specs.declared.Effect.{Effect}
-use Rattle.machine.specs.declared.Effect.the-variants.{Fails, Stores, Passes, Goes, Calls, Returns, Ends, Stays, Holds, Arms, Moves, Slews, Prints}
-use Rattle.machine.specs.Effects.{read, effect}
 use Rattle.machine.specs.Turn.{withVariables, startMachine, stored, movingBit, inMotion, slew, called, returned, held, turn}
 use Rattle.machine.specs.Events.{input, arrivedBy, happens, goodEvent}
 use Rattle.machine.specs.Code.{Bit, Inputs}
-use Rattle.machine.proofs.Turns.{Sound, sound, failed-variables}
+use Rattle.machine.proofs.Turns.{failed-variables}
 
 -- What a variable is after a store: the value stored, or what it was.
 module _ (P : ℤ → Type 0) (vars : List ℤ) (v k : ℕ) (z : ℤ) where

@@ -7,14 +7,14 @@ ghost use lib.IntN.{pos};
 ghost use lib.ListN.{set};
 ghost use Rattle.numbers.specs.Tests.{between, eqZ};
 ghost use Rattle.program.specs.Variables.{inRange, literals, allInputs};
-ghost use Rattle.machine.specs.Effects.{read};
+ghost use Rattle.effects.specs.Effects.{read};
 ghost use Rattle.machine.specs.Turn.{withVariables};
 ghost use Rattle.machine.specs.Events.{eventAt, eventCount, input, arrivedBy, happens, goodEvent, badScript, badEvent, firstBadEvent};
 ghost use Rattle.machine.specs.Code.{Bit, Inputs};
 use crate::Event;
 use crate::Machine;
 use crate::Motion;
-use crate::values::read;
+use effects::values::read;
 use program::Variable;
 
 // An event takes this many bytes, and so does a record: its turn, its kind, its number, two zeros, and its value.

@@ -2,9 +2,8 @@
 ghost use mathlib.Core.Path.{_≡_};
 ghost use Prim.Native.Nat.{_<_};
 ghost use Rattle.program.specs.Cells.{same, statementOf};
-ghost use Rattle.machine.specs.Effects.{effect};
+ghost use Rattle.effects.specs.Effects.{effect};
 ghost use Rattle.machine.specs.Turn.{withVariables, at, withHandler, onward, nothing, recorded, turned, stored, storeRecord, movingBit, inMotion, slew, called, returned, held, flagged, failed, turn};
-use crate::Effect;
 use crate::Machine;
 use crate::Motion;
 use crate::Places;
@@ -13,17 +12,14 @@ use crate::Turned;
 use crate::calls::keep;
 use crate::calls::last_place;
 use crate::calls::release;
-use crate::effects::effect;
+use effects::Effect;
+use effects::doing::effect;
 use program::Cell;
 use program::Variable;
 
 impl Record {
-    // The kinds: an output was written, the axis moves to a place, or by a distance, or slews, a value was printed, an error came.
+    // The kinds: an output was written, the axis slews, a value was printed, an error came. Those of a move come with its effect.
     pub const OUTPUT: u8 = 1;
-
-    pub const MOVED_TO: u8 = 2;
-
-    pub const MOVED_BY: u8 = 3;
 
     pub const SLEWS: u8 = 4;
 

@@ -16,15 +16,15 @@ use Rattle.program.specs.Variables.{inRange, literals, rangeOf, readOnly, allIn
 use Rattle.program.specs.Cells.{noTarget}
 use Rattle.program.specs.Statements.{Value, Statement, SetWith, IC, DC, MA, MR}
 use Rattle.program.proofs.Keys.{both}
+use Rattle.effects.specs.declared.Effect.{Effect}
+use Rattle.effects.specs.declared.Effect.the-variants.{Fails, Stores, Passes, Goes, Calls, Returns, Ends, Stays, Holds, Arms, Moves, Slews, Prints}
+use Rattle.effects.specs.Effects.{read, storing, storingResult, operate, storingWith, moving, value, effect}
 use Rattle.machine.specs.declared.Machine.{Machine}
 use Rattle.machine.specs.declared.Motion.{Motion}
 use Rattle.machine.specs.declared.Motion.the-variants.{Still, To, Slewing}
 use Rattle.machine.specs.declared.Record.{Record}
 use Rattle.machine.specs.declared.Turned.{Turned}
 use Rattle.machine.specs.declared.Event.{Event}
-use Rattle.machine.specs.declared.Effect.{Effect}
-use Rattle.machine.specs.declared.Effect.the-variants.{Fails, Stores, Passes, Goes, Calls, Returns, Ends, Stays, Holds, Arms, Moves, Slews, Prints}
-use Rattle.machine.specs.Effects.{read, storing, storingResult, operate, storingWith, moving, value, effect}
 use Rattle.machine.specs.Turn.{recorded, stored, inMotion, movingBit, slew, called, returned, held, flagged, failed, turn}
 use Rattle.machine.specs.Events.{input, arrivedBy, happens, goodEvent, recordBytes}
 use Rattle.machine.specs.Run.{Course, Reached, reach, runFrom, ended, after}

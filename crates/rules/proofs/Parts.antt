@@ -15,10 +15,10 @@ use Rattle.numbers.specs.Tests.{between}
 use Rattle.program.specs.Variables.{range, rangeOf, present, allInputs}
 use Rattle.program.specs.Cells.{noTarget}
 use Rattle.program.proofs.Keys.{both, both-of}
+use Rattle.effects.specs.Effects.{read}
 use Rattle.machine.specs.declared.Machine.{Machine}
 use Rattle.machine.specs.declared.Motion.{Motion}
 use Rattle.machine.specs.declared.Motion.the-variants.{Still, To, Slewing}
-use Rattle.machine.specs.Effects.{read}
 use Rattle.machine.specs.Events.{input}
 use Rattle.machine.specs.Turn.{machine, movingBit}
 use Rattle.rules.specs.Rules.{Ruled, goodMotion}

@@ -6,9 +6,9 @@ use mathlib.Core.List.{List}
 use Prim.Native.Nat.{ℕ, zero, suc, _<_}
 use lib.Dec.{T, leb, nleb→lt}
 use Rattle.numbers.specs.Tests.{all}
+use Rattle.effects.specs.declared.Effect.{Effect}
 use Rattle.machine.specs.declared.Machine.{Machine}
 use Rattle.machine.specs.declared.Event.{Event}
-use Rattle.machine.specs.declared.Effect.{Effect}
 use Rattle.machine.specs.Turn.{turn}
 use Rattle.machine.specs.Events.{goodEvent}
 use Rattle.machine.specs.Run.{Course, reach, runFrom}

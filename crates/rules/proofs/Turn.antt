@@ -15,13 +15,13 @@ use Rattle.program.specs.Cells.{holdRange, slewRange, noTarget}
 use Rattle.program.specs.Statements.{Value, Statement, Set, SetWith, IC, DC, BR, CL, RT, E, H, Hold, OE, Disarm, MA, MR, SL, PR, writes, targets}
 use Rattle.program.specs.Statements as S
 use Rattle.program.proofs.Keys.{both, both-of}
+use Rattle.effects.specs.declared.Effect.{Effect}
+use Rattle.effects.specs.declared.Effect.the-variants.{Fails, Stores, Passes, Goes, Calls, Returns, Ends, Stays, Holds, Arms, Moves, Slews, Prints}
+use Rattle.effects.specs.Effects.{read, storing, storingResult, operate, storingWith, calling, returning, waiting, holding, moving, slewing, printing, branching, callingIf, effect}
 use Rattle.machine.specs.declared.Machine.{Machine}
 use Rattle.machine.specs.declared.Motion.{Motion}
 use Rattle.machine.specs.declared.Motion.the-variants.{To}
 use Rattle.machine.specs.declared.Turned.{Turned}
-use Rattle.machine.specs.declared.Effect.{Effect}
-use Rattle.machine.specs.declared.Effect.the-variants.{Fails, Stores, Passes, Goes, Calls, Returns, Ends, Stays, Holds, Arms, Moves, Slews, Prints}
-use Rattle.machine.specs.Effects.{read, storing, storingResult, operate, storingWith, calling, returning, waiting, holding, moving, slewing, printing, branching, callingIf, effect}
 use Rattle.machine.specs.Turn.{machine, stored, keep, release, lastPlace, inMotion, slew, called, returned, held, flagged, failed, turn}
 use Rattle.rules.specs.Rules.{Ruled, goodMotion}
 use Rattle.rules.specs.Good.{Good, isHold, writable}

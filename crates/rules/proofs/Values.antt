@@ -15,7 +15,7 @@ use lib.Signed.{leZ}
 use Rattle.numbers.specs.Tests.{between, eqZ}
 use Rattle.program.specs.Variables.{inRange, literals, rangeOf, present, allInputs}
 use Rattle.program.proofs.Keys.{both, both-of}
-use Rattle.machine.specs.Effects.{read}
+use Rattle.effects.specs.Effects.{read}
 
 -- By whether two numbers are the same; by whether one is below the other.
 module _ {C : Type 0} (a b : ℕ) where

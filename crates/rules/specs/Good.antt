@@ -7,9 +7,9 @@ use lib.Dec.{T, leb}
 use Rattle.numbers.specs.Tests.{all}
 use Rattle.program.specs.Variables.{present, readOnly}
 use Rattle.program.specs.Statements.{Statement, Set, SetWith, IC, DC, BR, CL, RT, E, H, Hold, OE, Disarm, MA, MR, SL, PR, writes, targets}
+use Rattle.effects.specs.declared.Effect.{Effect}
+use Rattle.effects.specs.Effects.{effect}
 use Rattle.machine.specs.declared.Machine.{Machine}
-use Rattle.machine.specs.declared.Effect.{Effect}
-use Rattle.machine.specs.Effects.{effect}
 
 -- Turn 5: an `H x`.
 module _ {R : Type 0} where

@@ -9,10 +9,10 @@ use lib.ListN.{length, getD}
 use Rattle.numbers.specs.Tests.{between, eqZ}
 use Rattle.program.specs.Variables.{inRange, literals, rangeOf, present, allInputs}
 use Rattle.program.specs.Cells.{slewRange, noTarget}
+use Rattle.effects.specs.Effects.{read}
 use Rattle.machine.specs.declared.Machine.{Machine}
 use Rattle.machine.specs.declared.Motion.{Motion}
 use Rattle.machine.specs.declared.Motion.the-variants.{Still, To, Slewing}
-use Rattle.machine.specs.Effects.{read}
 use Rattle.machine.specs.Turn.{movingBit}
 
 -- Turn 5: the motion's number: a target in P's range, a velocity in SL's.

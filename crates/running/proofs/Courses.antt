@@ -13,10 +13,10 @@ use lib.Seq.{sets, sets-eq, length-sets, length-take-le, take-at, drop-at, drop-
 use Rattle.program.specs.declared.Cell.{Cell}
 use Rattle.program.specs.Cells.{same, statementOf}
 use Rattle.image.specs.Layout.{cellCount, cellAt, startValues}
+use Rattle.effects.specs.Effects.{effect}
 use Rattle.machine.specs.declared.Machine.{Machine}
 use Rattle.machine.specs.declared.Turned.{Turned}
 use Rattle.machine.specs.declared.Event.{Event}
-use Rattle.machine.specs.Effects.{effect}
 use Rattle.machine.specs.Turn.{startMachine, turn}
 use Rattle.machine.specs.Events.{eventCount, recordBytes}
 use Rattle.machine.specs.Run.{Course, ended, after, reach, runFrom}

@@ -15,8 +15,8 @@ use Rattle.numbers.specs.Bytes.{bytes}
 use Rattle.numbers.specs.Tests.{joined}
 use Rattle.numbers.proofs.Laws.{length-bytes}
 use Rattle.image.specs.Layout.{cellCount, startValues}
+use Rattle.effects.specs.declared.Effect.{Effect}
 use Rattle.machine.specs.declared.Machine.{Machine}
-use Rattle.machine.specs.declared.Effect.{Effect}
 use Rattle.machine.specs.declared.Event.{Event}
 use Rattle.machine.specs.Turn.{startMachine, turn}
 use Rattle.machine.specs.Events.{eventCount, recordBytes}

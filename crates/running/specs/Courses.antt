@@ -5,9 +5,9 @@ use Prim.Native.Nat.{ℕ}
 use lib.ListN.{length, drop}
 use Rattle.program.specs.Cells.{same, statementOf}
 use Rattle.image.specs.Layout.{cellCount, cellAt, startValues}
+use Rattle.effects.specs.declared.Effect.{Effect}
+use Rattle.effects.specs.Effects.{effect}
 use Rattle.machine.specs.declared.Machine.{Machine}
-use Rattle.machine.specs.declared.Effect.{Effect}
-use Rattle.machine.specs.Effects.{effect}
 use Rattle.machine.specs.Turn.{startMachine}
 use Rattle.machine.specs.Events.{events}
 use Rattle.machine.specs.Run.{Course, runFrom}

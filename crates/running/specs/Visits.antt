@@ -8,8 +8,8 @@ use lib.ListN.{length, drop}
 use Rattle.numbers.specs.Bytes.{bytes}
 use Rattle.numbers.specs.Tests.{joined}
 use Rattle.image.specs.Layout.{cellCount, startValues}
+use Rattle.effects.specs.declared.Effect.{Effect}
 use Rattle.machine.specs.declared.Machine.{Machine}
-use Rattle.machine.specs.declared.Effect.{Effect}
 use Rattle.machine.specs.declared.Event.{Event}
 use Rattle.machine.specs.Turn.{turn, startMachine}
 use Rattle.machine.specs.Events.{events}

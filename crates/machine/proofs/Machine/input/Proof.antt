@@ -5,9 +5,9 @@ use Prim.Native.Nat.{_+_, _-_}
 use native.Mathlib.Omega.{arith}
 use borrow.Author.Needs.{needs}
 use Rattle.numbers.proofs.Kit.{back32}
+use Rattle.effects.proofs.Kit.{got32}
 use Rattle.machine.specs.Events.{input}
 use Rattle.machine.proofs.Inputs.{inputs-set}
-use Rattle.machine.proofs.Kit.{got32}
 use Rattle.machine.proofs.Machine.input.Statement.{statement}
 use Rattle.machine.proofs.Machine.input.Tie as tie
 

@@ -1,0 +1,45 @@
+-- `value` meets its contract: an operand by its kind.
+-- Assumes nothing.
+use mathlib.Core.Path.{_∙_}
+use borrow.Author.Needs.{needs}
+use Rattle.numbers.proofs.Kit.{fit32, back32}
+use Rattle.program.specs.Cells.{valueOf}
+use Rattle.effects.specs.Effects.{value}
+use Rattle.effects.proofs.values.value.Statement.{statement}
+use Rattle.effects.proofs.values.value.Tie as tie
+
+enum-told : tie.Need-enum-told
+enum-told c = search needs
+
+enum-known-operand : tie.Need-enum-known-operand
+enum-known-operand c = search needs
+
+enum-known-operand-2 : tie.Need-enum-known-operand-2
+enum-known-operand-2 c = search needs
+
+read-requires : tie.Need-read-requires
+read-requires c κs = search needs
+
+returns : tie.Need-returns
+unfolding value valueOf
+returns c = rw (c .enum-told .given .1)
+
+returns-2 : tie.Need-returns-2
+unfolding value valueOf
+returns-2 c = rw (c .before .operand .given .1) (search needs)
+
+returns-3 : tie.Need-returns-3
+unfolding value valueOf
+returns-3 c = rw (c .before .before .operand2 .given .1) (back32 (fit32 _ (c .read .ok)) ∙ c .read .ensures)
+
+pub value-spec : {M : Type 1} → statement M
+value-spec =
+    tie.close
+    (tie.spec
+    enum-told
+    enum-known-operand
+    enum-known-operand-2
+    read-requires
+    returns
+    returns-2
+    returns-3)
