@@ -5,7 +5,7 @@ use mathlib.Core.Bool.{Bool, true, false, cond, _&&_, _||_, and-eq-true-iff, or-
 use mathlib.Core.List.{List, [], _∷_}
 use Prim.Native.Nat.{ℕ, zero, suc, _+_, _*_, _≤_, _<_}
 use native.Mathlib.Omega.{arith}
-use borrow.Author.Tests.{lt-ltb, le-ltb, ltb-true, ltb-false, eqb-true, eqb-false, leb-true, ne-eqb}
+use borrow.Author.Tests.{lt-ltb, le-ltb, ltb-true, ltb-false, eqb-true, eqb-false, leb-true, eq-eqb, ne-eqb}
 use lib.Dec.{eqb, leb, ltb}
 use lib.IntN.{ℤ, pos}
 use lib.ListN.{length, set}
@@ -23,7 +23,7 @@ use Rattle.machine.specs.declared.Motion.the-variants.{Still, To, Slewin
 use Rattle.machine.specs.declared.Event.{Event}
 use Rattle.machine.specs.Turn.{withVariables, startMachine, stored, movingBit, inMotion, slew, called, returned, held, turn}
 use Rattle.machine.specs.Events.{input, arrivedBy, happens, goodEvent}
-use Rattle.machine.specs.Code.{Bit, Inputs}
+use Rattle.machine.specs.Code.{Bit, Inputs, moving, Arrived, Happened}
 use Rattle.machine.proofs.Turns.{failed-variables}
 
 -- What a variable is after a store: the value stored, or what it was.
@@ -169,5 +169,33 @@ unfolding allInputs read
 inputs-sum vars a b c d p q r s = rw (← p, ← q, ← r, ← s)
 
 -- What follows an arrival, by the motion.
-pub arrived-as : (m : Machine) {motion : Motion} {r : Machine} → m .motion ≡ motion → r ≡ arrivedBy motion m → r ≡ arrivedBy (m .motion) m
-arrived-as m e p = p ∙ sym (ap (λ (x : Motion). arrivedBy x m) e)
+module _ {vars : List ℤ} {motion : Motion} where
+  pub arrived-still : motion ≡ Still → Arrived vars motion vars motion
+  unfolding arrivedBy
+  arrived-still e = record { each = λ m. rw e }
+
+  pub arrived-to : {z : ℤ} → motion ≡ To z → Arrived vars motion (set (set vars 5 z) 14 (pos 0)) Still
+  unfolding arrivedBy inMotion movingBit
+  arrived-to e = record { each = λ m. rw e }
+
+  pub arrived-slewing : {z : ℤ} → motion ≡ Slewing z → Arrived vars motion vars motion
+  unfolding arrivedBy
+  arrived-slewing e = record { each = λ m. rw e }
+
+-- What follows an event, by its kind.
+module _ {e : Event} {vars : List ℤ} {motion : Motion} where
+  pub happened-input : {vars′ : List ℤ} → e .kind ≡ 1 → vars′ ≡ input (e .number) (e .value) vars → Happened e vars motion vars′ motion
+  unfolding happens
+  happened-input k h = record { each = λ m. rw (eq-eqb (e .kind) 1 k, h) }
+
+  pub happened-arrival : {vars′ : List ℤ} {motion′ : Motion} → (e .kind ≡ 1 → ⊥) → e .kind ≡ 2 → Arrived vars motion vars′ motion′ → Happened e vars motion vars′ motion′
+  unfolding happens
+  happened-arrival j k a = record { each = λ m. rw (ne-eqb (e .kind) 1 j, eq-eqb (e .kind) 2 k) (a .each m) }
+
+  pub happened-place : (e .kind ≡ 1 → ⊥) → (e .kind ≡ 2 → ⊥) → Happened e vars motion (set vars 5 (e .value)) motion
+  unfolding happens
+  happened-place j k = record { each = λ m. rw (ne-eqb (e .kind) 1 j, ne-eqb (e .kind) 2 k) }
+
+-- After a good event, the inputs are still 0 or 1.
+pub inputs-happened : (m : Machine) {e : Event} {vars vars′ : List ℤ} {motion motion′ : Motion} → Inputs vars → goodEvent e ≡ true → Happened e vars motion vars′ motion′ → Inputs vars′
+inputs-happened m {e} {vars} {motion = motion} h g p = rw (← p .each m) at (inputs-happens (moving vars motion m) h e g)

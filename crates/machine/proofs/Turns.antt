@@ -2,6 +2,7 @@
 -- Assumes nothing.
 use mathlib.Core.Path.{_≡_, refl, sym, ap, subst, _∙_}
 use mathlib.Core.Bool.{Bool, true, false, _&&_, and-eq-true-iff}
+use mathlib.Core.List.{List}
 use Prim.Native.Nat.{ℕ, _≤_}
 use native.Mathlib.Omega.{arith}
 use borrow.Author.Tests.{ne-eqb, leb-true}
@@ -16,12 +17,12 @@ use Rattle.effects.specs.Effects.{read, effect}
 use Rattle.effects.proofs.Sound.{Sound, sound}
 use Rattle.machine.specs.declared.Machine.{Machine}
 use Rattle.machine.specs.declared.Turned.{Turned}
-use Rattle.machine.specs.Turn.{withVariables, stored, called, flagged, failed, turn}
+use Rattle.machine.specs.Turn.{stored, called, flagged, failed, turn}
 
 -- A store past the last variable changes nothing.
-pub stored-out : (m : Machine) (v : ℕ) (z : ℤ) → length (m .variables) ≡ 64 → 64 ≤ v → m ≡ withVariables (stored (m .variables) v z) m
+pub stored-out : (vars : List ℤ) (v : ℕ) (z : ℤ) → length vars ≡ 64 → 64 ≤ v → vars ≡ stored vars v z
 unfolding stored
-stored-out m v z l h = rw (ne-eqb v 10 (λ e. omega arith), set-out (m .variables) v z (omega arith))
+stored-out vars v z l h = rw (ne-eqb v 10 (λ e. omega arith), set-out vars v z (omega arith))
 
 -- An output's number.
 pub output : (v : ℕ) → (leb 11 v && leb v 13) ≡ true → 11 ≤ v

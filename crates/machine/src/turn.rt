@@ -1,9 +1,10 @@
 // One turn: the effect of the statement, applied to the machine.
 ghost use mathlib.Core.Path.{_≡_};
 ghost use Prim.Native.Nat.{_<_};
+ghost use lib.ListN.{length};
 ghost use Rattle.program.specs.Cells.{same, statementOf};
 ghost use Rattle.effects.specs.Effects.{effect};
-ghost use Rattle.machine.specs.Turn.{withVariables, at, withHandler, onward, nothing, recorded, turned, stored, storeRecord, movingBit, inMotion, slew, called, returned, held, flagged, failed, turn};
+ghost use Rattle.machine.specs.Turn.{at, withHandler, onward, nothing, recorded, turned, stored, storeRecord, movingBit, inMotion, slew, called, returned, held, flagged, failed, turn};
 use crate::Machine;
 use crate::Motion;
 use crate::Places;
@@ -76,26 +77,26 @@ impl Motion {
     }
 }
 
+// A store, which clears EF where it goes to ER.
+fn store(vars: &mut [i32; 64], v: u32, value: i32)
+    requires { ⌜ length (now vars) ≡ 64 ⌝ }
+    ensures { λ r. ⌜ now (vars .exit) ≡ stored (now (vars .entry)) v value ⌝ }
+{
+    if Machine::VARIABLES <= v {
+        return;
+    }
+    let i = v as usize;
+    vars[i] = value;
+    if v == Variable::ER {
+        let flag = Variable::EF as usize;
+        vars[flag] = 0;
+        return;
+    }
+}
+
 impl Machine {
     // The numbers of variables are below this.
     pub const VARIABLES: u32 = 64;
-
-    // A store, which clears EF where it goes to ER.
-    fn stored(mut self, v: u32, value: i32) -> Machine
-        ensures { λ r. ⌜ r ≡ withVariables (stored (self .variables) v value) self ⌝ }
-    {
-        if Self::VARIABLES <= v {
-            return self;
-        }
-        let i = v as usize;
-        self.variables[i] = value;
-        if v == Variable::ER {
-            let flag = Variable::EF as usize;
-            self.variables[flag] = 0;
-            return self;
-        }
-        self
-    }
 
     // The motion changes, and MV with it.
     pub fn in_motion(self, motion: Motion) -> Machine
@@ -249,14 +250,17 @@ impl Machine {
     }
 
     // The next state, and what the turn records, of a program with so many cells.
-    pub fn turn(self, cell: Cell, cells: u16) -> Turned
+    pub fn turn(mut self, cell: Cell, cells: u16) -> Turned
         requires { ⌜ self .next < 65535 ⌝ }
         ensures { λ r. ⌜ r ≡ turn cells (effect same same (self .variables) (self .kept) (self .hold) (statementOf cell)) self ⌝ }
     {
         let does = effect(cell, &self.variables, self.kept, self.hold);
         match does {
             Effect::Fails(error) => self.failed(error),
-            Effect::Stores(v, value) => self.stored(v, value).onward(Record::stored(v, value)),
+            Effect::Stores(v, value) => {
+                store(&mut self.variables, v, value);
+                self.onward(Record::stored(v, value))
+            }
             Effect::Passes => self.onward(Record::nothing()),
             Effect::Goes(place) => self.at(place),
             Effect::Calls(place) => self.called(place).here(),

@@ -23,23 +23,22 @@ use Rattle.machine.specs.Run.{Course, ended, after, reach, runFrom}
 use Rattle.machine.specs.Code.{Inputs}
 use Rattle.machine.proofs.Inputs.{inputs-start, inputs-turn}
 use Rattle.machine.proofs.Written.{record-most}
-use Rattle.running.specs.declared.Reached.{Reached}
 use Rattle.running.specs.declared.Stepped.{Stepped}
 use Rattle.running.specs.Courses.{cellActs, imageCourse, over}
 use Rattle.running.specs.Code.{eventsFrom, ReachedBy, SteppedBy, EndedAs}
 use Rattle.running.proofs.Scripts.{events-all}
 
 -- One turn: what the events reach, then what the statement at the next cell gives.
-pub stepped-by : {s script : List ℕ} {cells t k : ℕ} {m : Machine} {r : Reached} {c : Cell} {d : Turned} → ReachedBy script t k m r → c ≡ cellAt s (r .machine .next)
-    → d ≡ turn cells (effect same same (r .machine .variables) (r .machine .kept) (r .machine .hold) (statementOf c)) (r .machine)
-    → SteppedBy s cells script t k m (record { turned = d; left = r .left })
+pub stepped-by : {s script : List ℕ} {cells t k n : ℕ} {m here : Machine} {c : Cell} {d : Turned} → ReachedBy script t k m here n → c ≡ cellAt s (here .next)
+    → d ≡ turn cells (effect same same (here .variables) (here .kept) (here .hold) (statementOf c)) here
+    → SteppedBy s cells script t k m (record { turned = d; left = n })
 unfolding cellActs
-stepped-by {cells = cells} {r = r} {c = c} er ec ed =
+stepped-by {cells = cells} {here = here} {c = c} er ec ed =
     record {
       turned = rw (← er .machine, ← ec) ed;
       left = er .left;
       within = er .within;
-      inputs = rw ed (inputs-turn (r .machine) (er .inputs) same same cells (statementOf c));
+      inputs = rw ed (inputs-turn here (er .inputs) same same cells (statementOf c));
     }
 
 -- The run from turn t on, with the events from number k on.

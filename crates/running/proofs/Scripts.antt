@@ -23,8 +23,7 @@ use Rattle.machine.specs.Events.{eventAt, eventCount, events, happens, arrivedB
 use Rattle.machine.specs.Run.{Reached, reach}
 use Rattle.machine.specs.Code.{Inputs}
 use Rattle.machine.proofs.Written.{start-more}
-use Rattle.running.specs.declared.Reached.{Reached as Here}
-use Rattle.running.specs.Code.{eventsFrom, ReachedBy}
+use Rattle.running.specs.Code.{eventsFrom, DueBefore, ReachedBy}
 
 -- How long a list is that has f at each number, and what stands in it.
 module _ {A : Type 0} (f : ℕ → A) where
@@ -97,13 +96,20 @@ module _ (s : List ℕ) where
     unfolding reach
     reach-none h = rw (events-none k h)
 
-  -- What stands when no event of the turn is left.
-  pub reached-by : (t first k : ℕ) {m here : Machine} → k ≤ eventCount s → Inputs (here .variables)
-      → reach t (eventsFrom s k) here ≡ record { machine = here; left = eventsFrom s k } → reach t (eventsFrom s k) here ≡ reach t (eventsFrom s first) m
-      → ReachedBy s t first m (record { machine = here; left = k })
-  reached-by t first k w i e h =
-      let r = sym e ∙ h in
-      record { machine = ap (λ (x : Reached). x .machine) r; left = ap (λ (x : Reached). x .left) r; within = w; inputs = i }
+  -- An event of another turn, or no event, comes next.
+  module _ (t first k : ℕ) (o : first ≤ k) (h : (j : ℕ) → j < k → first ≤ j → eventAt s j .turn ≡ t) where
+    pub due-before : {e : Event} → k < eventCount s → e ≡ eventAt s k → (e .turn ≡ t → ⊥) → DueBefore s t first k
+    due-before l ee et = record { order = o; within = omega arith; each = h; waits = λ m. reach-waits t k m l ee et }
+
+    pub due-all : k ≡ eventCount s → DueBefore s t first k
+    due-all e = record { order = o; within = omega arith; each = h; waits = λ m. reach-none t k m (omega arith) }
+
+  -- All events of the turn have acted.
+  pub reached-by : (t first k : ℕ) {m here : Machine} → Inputs (here .variables) → DueBefore s t first k → reach t (eventsFrom s k) here ≡ reach t (eventsFrom s first) m
+      → ReachedBy s t first m here k
+  reached-by t first k {here = here} i d h =
+      let r = sym (d .waits here) ∙ h in
+      record { machine = ap (λ (x : Reached). x .machine) r; left = ap (λ (x : Reached). x .left) r; within = d .within; inputs = i }
 
 -- An event leaves the next cell as it is.
 arrived-next : (k : Motion) (m : Machine) → arrivedBy k m .next ≡ m .next
@@ -130,5 +136,5 @@ reach-next t (e ∷ es) m = by-turn (eqb (e .turn) t) (reach-next t es (happens 
     by-turn true h = h
     by-turn false h = refl
 
-pub reached-next : {s : List ℕ} {t k : ℕ} {m : Machine} {r : Here} → ReachedBy s t k m r → r .machine .next ≡ m .next
+pub reached-next : {s : List ℕ} {t k n : ℕ} {m here : Machine} → ReachedBy s t k m here n → here .next ≡ m .next
 reached-next {s} {t} {k} {m} e = rw (e .machine) (reach-next t (eventsFrom s k) m)

@@ -2,7 +2,7 @@
 -- Assumes nothing.
 use mathlib.Core.Path.{_≡_}
 use mathlib.Core.List.{List}
-use Prim.Native.Nat.{ℕ, _-_, _≤_}
+use Prim.Native.Nat.{ℕ, _-_, _≤_, _<_}
 use lib.ListN.{length}
 use Rattle.numbers.specs.Tests.{listed}
 use Rattle.machine.specs.declared.Machine.{Machine}
@@ -11,7 +11,6 @@ use Rattle.machine.specs.Events.{eventAt, eventCount}
 use Rattle.machine.specs.Turn.{turn}
 use Rattle.machine.specs.Run.{Course, reach}
 use Rattle.machine.specs.Code.{Inputs}
-use Rattle.running.specs.declared.Reached.{Reached}
 use Rattle.running.specs.declared.Stepped.{Stepped}
 use Rattle.running.specs.declared.Ended.{Ended}
 use Rattle.running.specs.Courses.{cellActs, over}
@@ -21,12 +20,19 @@ use Rattle.running.specs.Visits.{visitsOver}
 unfoldable pub eventsFrom : List ℕ → ℕ → List Event
 eventsFrom s k = listed k (eventCount s - k) (eventAt s)
 
--- The events of turn t have acted, from the one with this number on.
-pub record ReachedBy (s : List ℕ) (t first : ℕ) (m : Machine) (r : Reached) : Type 0 where
-  pub machine : r .machine ≡ reach t (eventsFrom s first) m .machine
-  pub left : eventsFrom s (r .left) ≡ reach t (eventsFrom s first) m .left
-  pub within : r .left ≤ eventCount s
-  pub inputs : Inputs (r .machine .variables)
+-- The events from the first number on are of turn t up to the last number, and the one with that number, if there is one, is not.
+pub record DueBefore (s : List ℕ) (t first last : ℕ) : Type 0 where
+  pub order : first ≤ last
+  pub within : last ≤ eventCount s
+  pub each : (k : ℕ) → k < last → first ≤ k → eventAt s k .turn ≡ t
+  pub waits : (m : Machine) → reach t (eventsFrom s last) m ≡ record { machine = m; left = eventsFrom s last }
+
+-- The events of turn t have acted, from the one with the first number on; those from the last number on are left.
+pub record ReachedBy (s : List ℕ) (t first : ℕ) (m here : Machine) (last : ℕ) : Type 0 where
+  pub machine : here ≡ reach t (eventsFrom s first) m .machine
+  pub left : eventsFrom s last ≡ reach t (eventsFrom s first) m .left
+  pub within : last ≤ eventCount s
+  pub inputs : Inputs (here .variables)
 
 -- Turn t was taken: its events have acted, from the one with this number on, then the statement at the next cell.
 pub record SteppedBy (s : List ℕ) (cells : ℕ) (script : List ℕ) (t first : ℕ) (m : Machine) (r : Stepped) : Type 0 where

@@ -1,7 +1,7 @@
 // The run of an image, turn by turn.
 ghost use mathlib.Core.Path.{_≡_};
 ghost use mathlib.Core.Bool.{false};
-ghost use Prim.Native.Nat.{_*_, _≤_, _<_};
+ghost use Prim.Native.Nat.{ℕ, _*_, _≤_, _<_};
 ghost use lib.ListN.{length};
 ghost use Rattle.image.specs.Layout.{startValues};
 ghost use Rattle.machine.specs.Turn.{startMachine};
@@ -9,18 +9,13 @@ ghost use Rattle.machine.specs.Events.{badScript, badEvents, eventCount};
 ghost use Rattle.machine.specs.Code.{Inputs};
 ghost use Rattle.running.specs.Courses.{imageCourse};
 ghost use Rattle.running.specs.Visits.{imageVisits};
-ghost use Rattle.running.specs.Code.{ReachedBy, SteppedBy, EndedAs, VisitedAs};
+ghost use Rattle.running.specs.Code.{DueBefore, ReachedBy, SteppedBy, EndedAs, VisitedAs};
 use machine::Machine;
 use machine::Turned;
 use machine::events::event_at;
 use machine::events::event_count;
+use machine::events::happen;
 use machine::records::write_record;
-
-// The machine once the events of a turn have acted, and the number of the first event after them.
-pub struct Reached {
-    pub machine: Machine,
-    pub left: usize,
-}
 
 // What one turn came to, and the number of the first event after it.
 pub struct Stepped {
@@ -59,28 +54,44 @@ fn started(image: &[u8]) -> Machine
     machine
 }
 
-// The events of this turn act in order, from the event with this number on.
-fn reach(events: &[u8], turn: u32, first: usize, machine: Machine) -> Reached
-    requires { ⌜ (eventCount (now events) ≤ 4096) × (badEvents (now events) ≡ false) × (first ≤ eventCount (now events)) × Inputs (machine .variables) ⌝ }
-    ensures { λ r. ⌜ ReachedBy (now (events .entry)) turn first machine r ⌝ }
+// The number of the first event that is not of this turn, from the event with this number on.
+fn later(events: &[u8], turn: u32, first: usize) -> usize
+    requires { ⌜ (eventCount (now events) ≤ 4096) × (first ≤ eventCount (now events)) ⌝ }
+    ensures { λ r. ⌜ DueBefore (now (events .entry)) turn first r ⌝ }
 {
     let count = event_count(events);
-    let mut here = machine;
     let mut k = first;
     while k < count {
         let event = event_at(events, k);
         if event.turn != turn {
-            return Reached {
-                machine: here,
-                left: k,
-            };
+            return k;
         }
-        here = here.happens(event);
         k += 1;
     }
-    Reached {
-        machine: here,
-        left: k,
+    k
+}
+
+// The machine once the events have acted in order, from the one with the first number to the one before the last.
+fn reach(events: &[u8], first: usize, last: usize, machine: Machine) -> Machine
+    requires { ⌜ (eventCount (now events) ≤ 4096) × (badEvents (now events) ≡ false) × ((first ≤ last) × (last ≤ eventCount (now events))) × Inputs (machine .variables) ⌝ }
+    ensures { λ r. ⌜ ((t : ℕ) → DueBefore (now (events .entry)) t first last → ReachedBy (now (events .entry)) t first machine r last) ⌝ }
+{
+    let mut variables = machine.variables;
+    let mut motion = machine.motion;
+    let mut k = first;
+    while k < last {
+        motion = happen(&mut variables, motion, event_at(events, k));
+        k += 1;
+    }
+    let places = machine.places;
+    Machine {
+        variables: variables,
+        next: machine.next,
+        places: places,
+        kept: machine.kept,
+        handler: machine.handler,
+        hold: machine.hold,
+        motion: motion,
     }
 }
 
@@ -96,13 +107,10 @@ pub fn step(
     requires { ⌜ (eventCount (now events) ≤ 4096) × (badEvents (now events) ≡ false) × (first ≤ eventCount (now events)) × Inputs (machine .variables) × (machine .next < cells) ⌝ }
     ensures { λ r. ⌜ SteppedBy (now (image .entry)) cells (now (events .entry)) turn first machine r ⌝ }
 {
-    let reached = reach(events, turn, first, machine);
-    let here = reached.machine;
+    let left = later(events, turn, first);
+    let here = reach(events, first, left, machine);
     let turned = here.turn(image::cell_at(image, here.next), cells);
-    Stepped {
-        turned,
-        left: reached.left,
-    }
+    Stepped { turned, left }
 }
 
 // The run of an image, against the events of a script and within a budget of turns. Its records go to the buffer.

@@ -21,14 +21,14 @@ failed-requires c κs = search needs
 enum-known-does-2 : tie.Need-enum-known-does-2
 enum-known-does-2 c = search needs
 
+store-requires : tie.Need-store-requires
+store-requires c κs = search needs
+
 stored-requires : tie.Need-stored-requires
 stored-requires c κs = search needs
 
-stored-requires-2 : tie.Need-stored-requires-2
-stored-requires-2 c κs = search needs
-
 onward-requires : tie.Need-onward-requires
-onward-requires c κs = rw (c .before .stored .ensures) (c .before .before .before .before .before .before .before .before .before .pre)
+onward-requires c κs = c .before .before .before .before .before .before .before .before .before .before .pre
 
 enum-told : tie.Need-enum-told
 enum-told c = search needs
@@ -125,9 +125,10 @@ returns c =
 returns-2 : tie.Need-returns-2
 unfolding turn
 returns-2 c =
-    let z = c .before .before .before .before .does2 .given .0 .1 .0 in
+    let at = c .before .before .before .before .before in
+    let z = at .does2 .given .0 .1 .0 in
     let z′ : toZ w32 (ofZ w32 z) ≡ z = search needs in
-    turn-by _ _ (c .before .before .before .before .before .before .effect .ensures) (c .before .before .before .before .does2 .given .1) _ (simp (c .before .before .stored .ensures, c .before .stored2 .ensures, z′) at (c .onward .ensures))
+    turn-by _ _ (at .before .before .effect .ensures) (at .does2 .given .1) _ (simp (c .before .before .store .ensures, c .before .stored .ensures, z′) at (c .onward .ensures))
 
 returns-3 : tie.Need-returns-3
 unfolding turn
@@ -200,8 +201,8 @@ turn-spec =
     enum-known-does
     failed-requires
     enum-known-does-2
+    store-requires
     stored-requires
-    stored-requires-2
     onward-requires
     enum-told
     nothing-requires
