@@ -79,16 +79,17 @@ fn try_with(path: &[u8], text: &[u8], events: &[u8], word: &[u8], turns: u64) ->
     let mut records = io::large_buffer();
     let tried = tried::try_text(text, &mut image, events, turns, &mut records);
     let translated = tried.translated;
-    let ran = tried.ran;
     if translated.number != 0 {
         return refuse(path, text, translated.line, translated.number);
     }
+    let ran = tried.ran;
     if ran.number != 0 {
         return commands::refuse_run(path, word, ran.number);
     }
+    let made = given::of_buffer(&image, translated.length);
     tell(
         text,
-        given::of_buffer(&image, translated.length),
+        made,
         events,
         commands::records_of(&records, ran),
         turns,

@@ -68,6 +68,10 @@ fn line(
     byte(buffer, end, b'\n')
 }
 
+fn label(buffer: &mut Buffer, held: usize, letter: u8, number: usize) -> usize {
+    line(buffer, held, b"LB ", letter, number, b"", NAME_LINE)
+}
+
 // The statement in the middle of a block.
 fn middle(buffer: &mut Buffer, held: usize, block: usize) -> usize {
     let kind = block % 4;
@@ -84,23 +88,40 @@ fn middle(buffer: &mut Buffer, held: usize, block: usize) -> usize {
     line(buffer, held, b"R3=", b'U', block, b"^5", CELL_LINE)
 }
 
-// A variable that counts up, an output, a statement that is passed over by an input, a value printed, and the way on.
-fn block(buffer: &mut Buffer, held: usize, number: usize) -> usize {
-    let next = (number % BLOCKS) + 13;
+// A variable that counts up.
+fn counting(buffer: &mut Buffer, held: usize, number: usize) -> usize {
     let mut at = line(buffer, held, b"VA ", b'U', number, b"=7", NAME_LINE);
-    at = line(buffer, at, b"LB ", b'G', number, b"", NAME_LINE);
+    at = label(buffer, at, b'G', number);
     at = line(buffer, at, b"IC ", b'U', number, b"", CELL_LINE);
-    at = line(buffer, at, b"LB ", b'J', number, b"", NAME_LINE);
-    at = line(buffer, at, b"R1=", b'U', number, b"*3", CELL_LINE);
+    label(buffer, at, b'J', number)
+}
+
+// An output, and a statement that is passed over by an input.
+fn storing(buffer: &mut Buffer, held: usize, number: usize) -> usize {
+    let mut at = line(buffer, held, b"R1=", b'U', number, b"*3", CELL_LINE);
     at = line(buffer, at, b"O1=", b'U', number, b"&1", CELL_LINE);
-    at = line(buffer, at, b"LB ", b'K', number, b"", NAME_LINE);
-    at = line(buffer, at, b"BR ", b'Q', number, b",IN>=8", CELL_LINE);
-    at = middle(buffer, at, number);
-    at = line(buffer, at, b"LB ", b'Q', number, b"", NAME_LINE);
+    at = label(buffer, at, b'K', number);
+    line(buffer, at, b"BR ", b'Q', number, b",IN>=8", CELL_LINE)
+}
+
+// A value printed, and the way on.
+fn ending(buffer: &mut Buffer, held: usize, number: usize) -> usize {
+    let mut at = label(buffer, held, b'Q', number);
     at = line(buffer, at, b"PR ", b'U', number, b"", CELL_LINE);
-    at = line(buffer, at, b"LB ", b'W', number, b"", NAME_LINE);
+    at = label(buffer, at, b'W', number);
     at = line(buffer, at, b"BR ", b'G', number, b",R1<30", CELL_LINE);
-    line(buffer, at, b"BR ", b'G', next, b"", CELL_LINE)
+    onward(buffer, at, (number % BLOCKS) + 13)
+}
+
+fn onward(buffer: &mut Buffer, held: usize, next: usize) -> usize {
+    line(buffer, held, b"BR ", b'G', next, b"", CELL_LINE)
+}
+
+fn block(buffer: &mut Buffer, held: usize, number: usize) -> usize {
+    let mut at = counting(buffer, held, number);
+    at = storing(buffer, at, number);
+    at = middle(buffer, at, number);
+    ending(buffer, at, number)
 }
 
 pub fn text(buffer: &mut Buffer) -> usize {

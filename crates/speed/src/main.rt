@@ -23,22 +23,15 @@ const MOST_DIGITS: usize = 9;
 
 const FIRST_SUM: u64 = 1;
 
-// Two words with the same bytes.
-fn is_same(a: &[u8], b: &[u8]) -> bool {
-    if a.len() != b.len() {
-        return false;
-    }
-    for i in 0..a.len() {
-        if a[i] != b[i] {
-            return false;
-        }
-    }
-    true
-}
+// The calls, by their numbers among the tool's commands.
+const TRANSLATE: u32 = 2;
 
-// The name of one of the calls.
-fn is_call(word: &[u8]) -> bool {
-    is_same(word, b"translate") | is_same(word, b"check") | is_same(word, b"run")
+const CHECK: u32 = 3;
+
+const RUN: u32 = 4;
+
+fn is_call(call: u32) -> bool {
+    (call == TRANSLATE) | (call == CHECK) | (call == RUN)
 }
 
 fn is_digit(b: u8) -> bool {
@@ -104,13 +97,13 @@ fn write_sum(sum: u64) {
 }
 
 // Makes the call so many times. The text's image is made once before, where the call takes an image.
-fn repeat(call: &[u8], times: u64, text: &[u8], image: &mut [u8]) {
-    if is_same(call, b"translate") {
+fn repeat(call: u32, times: u64, text: &[u8], image: &mut [u8]) {
+    if call == TRANSLATE {
         write_sum(translate(times, text, image));
         return;
     }
     bench::translate(text, image);
-    if is_same(call, b"check") {
+    if call == CHECK {
         write_sum(check(times, image));
         return;
     }
@@ -124,8 +117,8 @@ fn repeat_run(times: u64, image: &[u8]) {
     write_sum(run(times, image, build::front(&events, held), &mut records));
 }
 
-// The call by its name, on the largest program.
-fn measure(call: &[u8], times: u64) {
+// A call on the largest program.
+fn measure(call: u32, times: u64) {
     let mut text = io::large_buffer();
     let mut image = [0u8; LONGEST_IMAGE];
     let held = build::text(&mut text);
@@ -133,12 +126,13 @@ fn measure(call: &[u8], times: u64) {
 }
 
 fn main() {
-    let mut call = [0u8; WORD];
+    let mut name = [0u8; WORD];
     let mut times = [0u8; WORD];
-    let n = os::arg(1, &mut call);
+    let n = os::arg(1, &mut name);
     let m = os::arg(2, &mut times);
-    if (os::arg_count() == WORDS) & is_call(&call[..n]) & is_count(&times[..m]) {
-        measure(&call[..n], number(&times[..m]));
+    let call = words::number_for(words::COMMAND, &name[..n]);
+    if (os::arg_count() == WORDS) & is_call(call) & is_count(&times[..m]) {
+        measure(call, number(&times[..m]));
         return;
     }
     io::write_all(STDERR_FILENO, b"usage: speed translate|check|run N\n");

@@ -41,6 +41,9 @@ pub fn all_lines<'a>(lines: &'a Lines) -> &'a [u8] {
 pub fn put_lines(lines: &mut Lines, text: &[u8]) {
     for place in 0..256 {
         let found = translation::line_of(text, place as u16);
+        if found.line == 0 {
+            return;
+        }
         numbers::write(lines, place * 2, 2, found.line as u64);
     }
 }

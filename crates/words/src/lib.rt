@@ -69,9 +69,9 @@ pub const EVENT: u32 = 21;
 pub const TURNS_ASKED: u32 = 22;
 
 // The bytes of the table, those of its lines for people, its lines, and the bytes of the longest line with its end.
-const SIZE: usize = 3353;
+const SIZE: usize = 3390;
 
-pub const FOR_PEOPLE: usize = 2609;
+pub const FOR_PEOPLE: usize = 2646;
 
 const LINE_COUNT: usize = 92;
 
@@ -86,21 +86,21 @@ refusal 6: the name is declared on a line before this one
 refusal 7: one cell, label or variable too many (at most 256, 160 and 32)
 refusal 8: name not declared, or first declared as the other kind
 refusal 9: the variable can only be read
-refusal 10: the image buffer is shorter than the image
-refusal 21: the image is shorter than 16 bytes or longer than 5,008
+refusal 10: the image does not fit into its buffer
+refusal 21: the image has fewer than 16 bytes or more than 5,008
 refusal 22: the image is not of edition 1
 refusal 23: place, counts and length in the trailer do not fit the image
-refusal 24: a cell that no text gives
-refusal 25: a name record that no text gives
+refusal 24: a cell that translating never makes
+refusal 25: a name record that translating never makes
 refusal 32: events that are not 12 bytes each, or more than 4,096
 refusal 33: a bad event, or a turn below that of the event before
 refusal 34: more than 4,096 turns
-refusal 35: the record buffer is shorter than 12 bytes a turn
+refusal 35: the record buffer has fewer than 12 bytes for each turn
 error 101: the result is outside -2,147,483,647 to 2,147,483,647
 error 102: division by zero
 error 103: the value is outside the range of the variable, of H or of SL
-error 104: a call with eight return places kept
-error 105: a return with no place kept
+error 104: a call, and all eight return places are in use
+error 105: a return, and no place to return to
 error 106: a move while the axis is moving
 end 1: past the last statement
 end 2: stopped, no return place was free for the handler

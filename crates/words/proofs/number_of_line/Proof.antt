@@ -9,7 +9,7 @@ abbrev Inv-loop : tie.InvT-loop
 Inv-loop at number₀ i₀ number i = Unit {0}
 
 abbrev μ-loop : tie.MeasureT-loop
-μ-loop at number₀ i₀ number i = 3353 - i
+μ-loop at number₀ i₀ number i = 3390 - i
 
 loop-holds : tie.Need-loop-holds Inv-loop μ-loop
 loop-holds c = search needs

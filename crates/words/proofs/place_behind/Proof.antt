@@ -9,7 +9,7 @@ abbrev Inv-loop : tie.InvT-loop
 Inv-loop byte at i₀ i = Unit {0}
 
 abbrev μ-loop : tie.MeasureT-loop
-μ-loop byte at i₀ i = 3353 - i
+μ-loop byte at i₀ i = 3390 - i
 
 loop-holds : tie.Need-loop-holds Inv-loop μ-loop
 loop-holds c = search needs

@@ -20,6 +20,9 @@ cast-line-of c = search needs
 line-of-requires : tie.Need-line-of-requires Inv-loop μ-loop
 line-of-requires c κs = search needs
 
+returns : tie.Need-returns Inv-loop μ-loop
+returns c = search needs
+
 mul-write : tie.Need-mul-write Inv-loop μ-loop
 mul-write c = search needs
 
@@ -35,8 +38,8 @@ loop-less c = search needs
 loop-again : tie.Need-loop-again Inv-loop μ-loop
 loop-again c = search needs
 
-returns : tie.Need-returns Inv-loop μ-loop
-returns c = search needs
+returns-2 : tie.Need-returns-2 Inv-loop μ-loop
+returns-2 c = search needs
 
 pub put-lines-spec : {M : Type 1} → statement M
 put-lines-spec =
@@ -47,9 +50,10 @@ put-lines-spec =
     loop-holds
     cast-line-of
     line-of-requires
+    returns
     mul-write
     write-requires
     add-place
     loop-less
     loop-again
-    returns)
+    returns-2)
