@@ -187,7 +187,7 @@ pub fn line_end(page: &mut Page, held: usize) -> usize {
 // The lines of the table that are for people, and the text on the tool's use.
 pub fn all_words(page: &mut Page) -> usize {
     let mut at: usize = 0;
-    for i in 0..words::FOR_PEOPLE {
+    for i in words::FIRST_FOR_PEOPLE..words::SIZE {
         at = byte(page, at, words::letter(i));
     }
     at

@@ -68,16 +68,57 @@ pub const EVENT: u32 = 21;
 
 pub const TURNS_ASKED: u32 = 22;
 
-// The bytes of the table, those of its lines for people, its lines, and the bytes of the longest line with its end.
-const SIZE: usize = 3390;
+// The bytes of the table, the place of the first line for people, the number of lines, and the bytes of the longest line with its end.
+// What is sought most often stands first.
+pub const SIZE: usize = 3390;
 
-pub const FOR_PEOPLE: usize = 2646;
+pub const FIRST_FOR_PEOPLE: usize = 744;
 
 const LINE_COUNT: usize = 92;
 
 pub const LONGEST: usize = 76;
 
-const LINES: [u8; SIZE] = *b"refusal 1: the text has more than 16,384 bytes
+const LINES: [u8; SIZE] = *b"event 1: input
+event 2: arrived
+event 3: position
+item 1: output 
+item 2: move to 
+item 3: move by 
+item 4: slew at 
+item 5: print 
+axis 0: , still
+axis 1: , moving to 
+axis 2: , slewing at 
+part 1: punnet: 
+part 2: standard output
+part 3:  bytes, cells 
+part 4: , labels 
+part 5: , variables 
+part 6: events 
+part 7:      turn   line  statement                 what it recorded
+part 8: event: 
+part 9: turns: 
+part 10: records: 
+part 11: position: 
+part 12: outputs:
+part 13: changed: 
+part 14:  (start 
+part 15:     column 
+part 16: : 
+part 17:  = 
+part 18:  ..
+part 19: \\x
+part 20: .part
+part 21: event 
+part 22:  turns: 
+command 1: try
+command 2: translate
+command 3: check
+command 4: run
+command 5: events
+command 6: words
+command 7: help
+refusal 1: the text has more than 16,384 bytes
 refusal 2: the line has more than 64 bytes
 refusal 3: a byte or a form that no statement has
 refusal 4: a number outside -2,147,483,647 to 2,147,483,647
@@ -129,46 +170,6 @@ usage 7: not a number of turns
 usage 8: longer than a script may be, 262,143 bytes
 usage 9: holds what was read; give another name to write to
 usage 10: not a plain file, and so not written
-command 1: try
-command 2: translate
-command 3: check
-command 4: run
-command 5: events
-command 6: words
-command 7: help
-event 1: input
-event 2: arrived
-event 3: position
-item 1: output 
-item 2: move to 
-item 3: move by 
-item 4: slew at 
-item 5: print 
-axis 0: , still
-axis 1: , moving to 
-axis 2: , slewing at 
-part 1: punnet: 
-part 2: standard output
-part 3:  bytes, cells 
-part 4: , labels 
-part 5: , variables 
-part 6: events 
-part 7:      turn   line  statement                 what it recorded
-part 8: event: 
-part 9: turns: 
-part 10: records: 
-part 11: position: 
-part 12: outputs:
-part 13: changed: 
-part 14:  (start 
-part 15:     column 
-part 16: : 
-part 17:  = 
-part 18:  ..
-part 19: \\x
-part 20: .part
-part 21: event 
-part 22:  turns: 
 ";
 
 pub const HELP_SIZE: usize = 1364;

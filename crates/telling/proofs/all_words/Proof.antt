@@ -9,7 +9,7 @@ abbrev Inv-loop : tie.InvT-loop
 Inv-loop page₀ at₀ i₀ page at i = Unit {0}
 
 abbrev μ-loop : tie.MeasureT-loop
-μ-loop page₀ at₀ i₀ page at i = 2646 - i
+μ-loop page₀ at₀ i₀ page at i = 3390 - i
 
 loop-holds : tie.Need-loop-holds Inv-loop μ-loop
 loop-holds c = search needs
