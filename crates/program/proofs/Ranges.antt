@@ -1,0 +1,80 @@
+-- The ranges by tests of the number: what the code asks, and what the layers above ask of a variable whose number is not known.
+-- Assumes nothing.
+use mathlib.Core.Path.{_≡_, refl, sym, subst, _∙_}
+use mathlib.Core.Bool.{Bool, true, false, cond}
+use mathlib.Core.Logic.{⊎-elim}
+use Prim.Native.Nat.{ℕ, zero, suc, _+_, _≤_, _<_}
+use native.Mathlib.Nat.{eq-or-lt-of-le}
+use native.Mathlib.Omega.{arith}
+use borrow.Author.Tests.{lt-ltb, le-ltb, ltb-true, ltb-false, ne-eqb}
+use lib.Dec.{eqb, ltb}
+use lib.IntN.{ℤ, pos, _+ℤ_, _-ℤ_}
+use lib.ListN.{List·getD-eq-default}
+use Rattle.program.specs.declared.Range.{Range}
+use Rattle.program.specs.Variables.{fromTo, literals, byNumber, userVariable, rangeOf}
+
+-- A number over 20 is the user's.
+pub user-range : (v : ℕ) (vi vm : ℤ) → 20 < v → rangeOf v vi vm ≡ literals
+unfolding rangeOf
+user-range v vi vm h = rw (List·getD-eq-default byNumber userVariable {n = v} (omega arith))
+
+abbrev pub tested : ℕ → ℤ → ℤ → Range
+tested v vi vm =
+    cond (ltb v 6) literals
+    (cond (ltb v 8) (fromTo (pos 1) (pos 2147483647))
+    (cond (eqb v 8) (fromTo (pos 1) (vm -ℤ pos 1))
+    (cond (eqb v 9) (fromTo (vi +ℤ pos 1) (pos 2560000))
+    (cond (eqb v 10) (fromTo (pos 0) (pos 0))
+    (cond (ltb v 20) (fromTo (pos 0) (pos 1))
+    (cond (eqb v 20) (fromTo (pos 0) (pos 15)) literals))))))
+
+tested-user : (v : ℕ) (vi vm : ℤ) → 20 < v → tested v vi vm ≡ literals
+tested-user v vi vm h =
+    rw (
+      le-ltb v 6 (omega arith),
+      le-ltb v 8 (omega arith),
+      ne-eqb v 8 (λ e. omega arith),
+      ne-eqb v 9 (λ e. omega arith),
+      ne-eqb v 10 (λ e. omega arith),
+      le-ltb v 20 (omega arith),
+      ne-eqb v 20 (λ e. omega arith),
+    )
+
+-- What holds of n numbers from k on, one by one, holds of each.
+abbrev EachFrom : (ℕ → Type 0) → ℕ → ℕ → Type 0
+EachFrom P k zero = Unit {0}
+EachFrom P k (suc n) = P k × EachFrom P (suc k) n
+
+each-from : (P : ℕ → Type 0) (k n : ℕ) → EachFrom P k n → (v : ℕ) → k ≤ v → v < k + n → P v
+each-from P k zero t v low high = absurd (omega arith)
+each-from P k (suc n) t v low high =
+    ⊎-elim (λ e. subst P e (t .0)) (λ l. each-from P (suc k) n (t .1) v l (omega arith)) (eq-or-lt-of-le low)
+
+-- Of the numbers below 21 the table says just what the tests say.
+paper-tested : (vi vm : ℤ) → EachFrom (λ (v : ℕ). rangeOf v vi vm ≡ tested v vi vm) 0 21
+unfolding rangeOf
+paper-tested vi vm = (refl, (refl, (refl, (refl, (refl, (refl, (refl, (refl, (refl, (refl, (refl, (refl, (refl, (refl, (refl, (refl, (refl, (refl, (refl, (refl, (refl, tt)))))))))))))))))))))
+
+pub range-tested : (v : ℕ) (vi vm : ℤ) → rangeOf v vi vm ≡ tested v vi vm
+range-tested v vi vm = pick (ltb v 21) refl
+  where
+    pick : (t : Bool) → ltb v 21 ≡ t → rangeOf v vi vm ≡ tested v vi vm
+    pick true e = each-from (λ (k : ℕ). rangeOf k vi vm ≡ tested k vi vm) 0 21 (paper-tested vi vm) v (omega arith) (ltb-true v 21 e)
+    pick false e = let h = ltb-false v 21 e in user-range v vi vm h ∙ sym (tested-user v vi vm h)
+
+-- Only the ranges of VI (8) and VM (9) go by other variables.
+pub range-other : (v : ℕ) (a b c d : ℤ) → (v ≡ 8 → ⊥) → (v ≡ 9 → ⊥) → rangeOf v a b ≡ rangeOf v c d
+range-other v a b c d h k = rw (range-tested v a b, range-tested v c d, ne-eqb v 8 h, ne-eqb v 9 k)
+
+-- The inputs, 16 to 19, are 0 or 1.
+pub input-range : (v : ℕ) (vi vm : ℤ) → 16 ≤ v → v < 20 → rangeOf v vi vm ≡ fromTo (pos 0) (pos 1)
+input-range v vi vm low high =
+    rw (
+      range-tested v vi vm,
+      le-ltb v 6 (omega arith),
+      le-ltb v 8 (omega arith),
+      ne-eqb v 8 (λ e. omega arith),
+      ne-eqb v 9 (λ e. omega arith),
+      ne-eqb v 10 (λ e. omega arith),
+      lt-ltb v 20 high,
+    )
