@@ -1,4 +1,4 @@
--- The slots that the code walks take what the paper's slots take, and so does a whole form.
+-- The slots that the code walks took what the paper's slots took, and so does a whole form.
 -- Assumes nothing.
 use mathlib.Core.Path.{_≡_, refl, sym, ap, ap₂, subst, _∙_}
 use mathlib.Core.Bool.{Bool, true, false, cond, _&&_, not}
@@ -17,18 +17,19 @@ use Rattle.numbers.specs.Tests.{all, eqList, numbered}
 use Rattle.program.specs.Names.{Name, twoCharacters, userName}
 use Rattle.program.specs.Code.{key, nameOf}
 use Rattle.program.specs.Statements as Said
-use Rattle.program.specs.Statements.{Literal, Variable}
+use Rattle.program.specs.Statements.{Literal, Variable, BitXor, AtLeast}
 use Rattle.program.proofs.Keys.{Characters, IsWord, isWord, two-word, user-word, name-key, same-test}
 use Rattle.text.specs.Tokens as Paper
 use Rattle.text.specs.Forms as Form
-use Rattle.text.specs.Forms.{digits, decimal, take, literal, variable, operand, variableName, operators, comparisons, Parts, Slot, Is, New, Target, Written, Left, Right, Start, Operator, Comparison, put, takesWord, takesFirst, takes, fill, onLeft, onRight, starting}
-use Rattle.text.specs.Code.{shortKey, token, pack, noToken, taken, zeroValue, meaning, valueOf, startOf, spelt, literalBy, variableBy, operandBy, onward, withName, withWritten, withSelector, withLeft, withRight, withStart, wordBy, slotBy, fillBy, tokenAt, partsOf}
+use Rattle.text.specs.Forms.{digits, decimal, took, literal, variable, operand, variableName, operatorMeant, comparisonMeant, Parts, Slot, Is, New, Target, Written, Left, Right, Start, Operating, Comparing, put, word, sign, takes, fill, naming, writing, onLeft, operating, comparing, onRight, starting}
+use Rattle.text.specs.Code.{shortKey, token, pack, noToken, taken, zeroValue, meaning, valueOf, startOf, spelt, literalBy, variableBy, operandBy, known, isOperator, isComparison, orElse, operatorBy, comparisonBy, onward, withName, withWritten, withOperator, withComparison, withLeft, withRight, withStart, wordBy, slotBy, fillBy, tokenAt, partsOf}
 use Rattle.text.specs.declared.tokens.Token.{Token}
 use Rattle.text.specs.declared.forms.Value.{Value}
 use Rattle.text.specs.declared.forms.Value.the-variants as Val
 use Rattle.text.specs.declared.forms.Taken.{Taken}
 use Rattle.text.specs.declared.forms.Match.{Match}
-use Rattle.text.proofs.Words.{Good, Goods, word-or-long, word-short, asked, asked-none, kept, listed, listed-word, spelled-so, variable-word, operators-words, comparisons-words}
+use Rattle.text.proofs.Words.{Good, Goods, word-or-long, word-short, asked, asked-none, named, kept, spelled-so, variable-word}
+use Rattle.text.proofs.Signs.{operator-word, comparison-word}
 use Rattle.text.proofs.Matching.{fill-stop}
 
 -- The slot of the paper with a number of the code.
@@ -39,8 +40,8 @@ pub data Kind : ℕ → Slot → Type 0 where
   left : Kind 4 Left
   right : Kind 5 Right
   start : Kind 6 Start
-  operator : Kind 7 Operator
-  comparison : Kind 8 Comparison
+  operator : Kind 7 Operating
+  comparison : Kind 8 Comparing
   fixed : (n : ℕ) → T (ltb 8 n) → Kind n (Is (nameOf n))
 
 -- The slots of a form; 0 is none.
@@ -56,7 +57,7 @@ front (t ∷ ts) = pack t
 
 -- What a slot takes where a test holds.
 abbrev pub whether : {A : Type 0} → Bool → A → List Paper.Token → Option (Form.Taken A)
-whether b a ts = cond b (take a ts) none
+whether b a ts = cond b (took a ts) none
 
 never : true ≡ false → ⊥
 never e = let q : _≡_ {A = ℕ} 0 1 = cc in omega arith
@@ -71,18 +72,6 @@ module _ {A : Type 0} where
   whether-same : (b c : Bool) {x y : A} {ts us : List Paper.Token} → b ≡ c → (c ≡ true → x ≡ y) → (c ≡ true → ts ≡ us) → whether b x ts ≡ whether c y us
   whether-same b true e f g = rw (e, f refl, g refl)
   whether-same b false e f g = rw e
-
-  whether-not : (b : Bool) (x : A) (ts : List Paper.Token) → cond b none (take x ts) ≡ whether (not b) x ts
-  whether-not true x ts = refl
-  whether-not false x ts = refl
-
--- The name of a word's key is the word.
-named-key : (w : Name) → Characters w × (0 < length w) → variableName w ≡ true → nameOf (shortKey w) ≡ w
-named-key w h e =
-    ⊎-elim
-    (λ s. ap nameOf (s .1) ∙ name-key w (s .0))
-    (λ s. absurd (word-short (variable-word w (subst T (sym e) tt)) (s .0)))
-    (word-or-long w (h .0) (h .1))
 
 -- Literals and operands.
 and-false : (t : Bool) → (t && false) ≡ false
@@ -134,7 +123,7 @@ literal-minus : (t u : Paper.Token) (ts : List Paper.Token) (x : Bool) → digit
 unfolding literal pack startOf meaning
 literal-minus t u ts x e g f =
     cond-no (digits t) _ _ e
-    ∙ ap (λ (b : Bool). cond b (take (negℤ (pos (decimal 0 (u .chars)))) ts) none)
+    ∙ ap (λ (b : Bool). cond b (took (negℤ (pos (decimal 0 (u .chars)))) ts) none)
     (ap (λ (b : Bool). b && (t .glued && digits u)) (minus (t .chars) (g .0) (g .1)) ∙ and-move (eqb (shortKey (t .chars)) 45) (t .glued) (digits u) ∙ f)
     ∙ pick x f
     ∙ ap (found (t ∷ u ∷ ts)) (sym (minus-first (shortKey (t .chars)) (decimal 0 (t .chars)) (t .glued) (pack u) (digits t) x e f))
@@ -147,8 +136,8 @@ literal-minus t u ts x e g f =
     value-is b e = rw e
 
     pick : (x : Bool) → ((eqb (shortKey (t .chars)) 45 && t .glued) && digits u) ≡ x
-        → cond x (take (negℤ (pos (decimal 0 (u .chars)))) ts) none ≡ found (t ∷ u ∷ ts) (cond x (taken 2 (Val.Literal true (pack u .value))) (taken 0 zeroValue))
-    pick true f = ap (λ (v : ℕ). take (negℤ (pos v)) ts) (value-is (digits u) (last (eqb (shortKey (t .chars)) 45 && t .glued) (digits u) f))
+        → cond x (took (negℤ (pos (decimal 0 (u .chars)))) ts) none ≡ found (t ∷ u ∷ ts) (cond x (taken 2 (Val.Literal true (pack u .value))) (taken 0 zeroValue))
+    pick true f = ap (λ (v : ℕ). took (negℤ (pos v)) ts) (value-is (digits u) (last (eqb (shortKey (t .chars)) 45 && t .glued) (digits u) f))
     pick false f = refl
 
 literal-law : (ts : List Paper.Token) → Goods ts → literal ts ≡ found ts (litOf ts)
@@ -165,6 +154,36 @@ literal-law (t ∷ u ∷ ts) g = pick (digits t) refl
     pick true e = literal-digits t (u ∷ ts) e
     pick false e = literal-minus t u ts ((eqb (shortKey (t .chars)) 45 && t .glued) && digits u) e (g .0) refl
 
+-- The first token by a test that only words pass, where its characters are read back from its key.
+put-whether : {A B : Type 0} (into : A → B) (b : Bool) (a : A) (ts : List Paper.Token) → put into (whether b a ts) ≡ whether b (into a) ts
+unfolding put
+put-whether into true a ts = refl
+put-whether into false a ts = refl
+
+word-law : {B : Type 0} (P : Name → Bool) (passed : (w : Name) → T (P w) → IsWord w) (back : ℕ → Name)
+    (same : (w : Name) → Characters w → 0 < length w → P w ≡ true → back (shortKey w) ≡ w) (into : Name → B) (ts : List Paper.Token) → Goods ts
+    → put into (word P ts) ≡ whether (P (nameOf (front ts .key))) (into (back (front ts .key))) (drop 1 ts)
+unfolding word put pack
+word-law P passed back same into [] g = sym (cond-no (P (nameOf 0)) _ _ (asked-none P passed))
+word-law P passed back same into (t ∷ ts) g =
+    let h = g .0 in
+    put-whether into (P (t .chars)) (t .chars) ts
+    ∙ sym
+    (whether-same (P (nameOf (shortKey (t .chars)))) (P (t .chars)) (asked P passed (t .chars) (h .0) (h .1))
+    (λ e. ap into (same (t .chars) (h .0) (h .1) e))
+    (λ e. refl))
+
+-- A sign is a word by the test that it stands for something.
+sign-word : {A B : Type 0} (means : Name → Option A) (last : A) (into : A → B) (ts : List Paper.Token)
+    → put into (sign means ts) ≡ put (λ (w : Name). into (orElse last (means w))) (word (λ (w : Name). known (means w)) ts)
+unfolding sign word put known
+sign-word means last into [] = refl
+sign-word {A} means last into (t ∷ ts) = pick (means (t .chars)) ∙ sym (put-whether (λ (w : Name). into (orElse last (means w))) (known (means (t .chars))) (t .chars) ts)
+  where
+    pick : (o : Option A) → put into (elim o [ none ↦ none | some a ↦ took a ts ]) ≡ whether (known o) (into (orElse last o)) ts
+    pick none = refl
+    pick (some a) = refl
+
 -- An operand: the literal, or else a variable.
 abbrev opOf : List Paper.Token → Taken
 opOf ts = operandBy (front ts) (front (drop 1 ts))
@@ -177,17 +196,13 @@ unfolding variableBy
 variable-by k b e = rw e
 
 variable-law : (ts : List Paper.Token) → Goods ts → variable ts ≡ foundValue ts (variableBy (front ts .key))
-unfolding variable valueOf pack
-variable-law [] g = ap (foundValue []) (sym (variable-by 0 false (asked-none variableName variable-word)))
-variable-law (t ∷ ts) g = pick (variableName (t .chars)) refl
+unfolding variable valueOf
+variable-law ts g = word-law variableName variable-word nameOf (named variableName variable-word) Variable ts g ∙ pick (variableName (nameOf (front ts .key))) refl
   where
-    pick : (b : Bool) → variableName (t .chars) ≡ b → cond (variableName (t .chars)) (take (Variable (t .chars)) ts) none ≡ foundValue (t ∷ ts) (variableBy (shortKey (t .chars)))
-    pick true e =
-        rw e
-        (ap (λ (v : Name). take (Variable v) ts) (sym (named-key (t .chars) (g .0) e))
-        ∙ ap (foundValue (t ∷ ts)) (sym (variable-by (shortKey (t .chars)) true (asked variableName variable-word (t .chars) (g .0 .0) (g .0 .1) ∙ e))))
-    pick false e =
-        rw e (ap (foundValue (t ∷ ts)) (sym (variable-by (shortKey (t .chars)) false (asked variableName variable-word (t .chars) (g .0 .0) (g .0 .1) ∙ e))))
+    pick : (b : Bool) → variableName (nameOf (front ts .key)) ≡ b
+        → whether (variableName (nameOf (front ts .key))) (Variable (nameOf (front ts .key))) (drop 1 ts) ≡ foundValue ts (variableBy (front ts .key))
+    pick true e = rw e (ap (foundValue ts) (sym (variable-by (front ts .key) true e)))
+    pick false e = rw e (ap (foundValue ts) (sym (variable-by (front ts .key) false e)))
 
 operand-by : (t u : Token) (b : Bool) → eqb (literalBy t u .used) 0 ≡ b → operandBy t u ≡ cond b (variableBy (t .key)) (literalBy t u)
 unfolding operandBy
@@ -205,21 +220,21 @@ literal-only t u = pick (t .digits) ((eqb (t .key) 45 && t .glued) && u .digits)
     pick false true = refl
     pick false false = refl
 
-abbrev orElse : Option (Form.Taken ℤ) → Option (Form.Taken (Said.Value Name)) → Option (Form.Taken (Said.Value Name))
-orElse o v = elim o [ none ↦ v | some z ↦ take (Literal (z .part)) (z .rest) ]
+abbrev literalOr : Option (Form.Taken ℤ) → Option (Form.Taken (Said.Value Name)) → Option (Form.Taken (Said.Value Name))
+literalOr o v = elim o [ none ↦ v | some z ↦ took (Literal (z .part)) (z .rest) ]
 
 operand-law : (ts : List Paper.Token) → Goods ts → operand ts ≡ foundValue ts (opOf ts)
 unfolding operand
-operand-law ts g = ap (λ (o : Option (Form.Taken ℤ)). orElse o (variable ts)) (literal-law ts g) ∙ pick (eqb (litOf ts .used) 0) refl
+operand-law ts g = ap (λ (o : Option (Form.Taken ℤ)). literalOr o (variable ts)) (literal-law ts g) ∙ pick (eqb (litOf ts .used) 0) refl
   where
-    pick : (b : Bool) → eqb (litOf ts .used) 0 ≡ b → orElse (found ts (litOf ts)) (variable ts) ≡ foundValue ts (opOf ts)
+    pick : (b : Bool) → eqb (litOf ts .used) 0 ≡ b → literalOr (found ts (litOf ts)) (variable ts) ≡ foundValue ts (opOf ts)
     pick true e =
-        ap (λ (b : Bool). orElse (whether (not b) (startOf (litOf ts .value)) (drop (litOf ts .used) ts)) (variable ts)) e
+        ap (λ (b : Bool). literalOr (whether (not b) (startOf (litOf ts .value)) (drop (litOf ts .used) ts)) (variable ts)) e
         ∙ variable-law ts g
         ∙ ap (foundValue ts) (sym (operand-by (front ts) (front (drop 1 ts)) true e))
     pick false e =
-        ap (λ (b : Bool). orElse (whether (not b) (startOf (litOf ts .value)) (drop (litOf ts .used) ts)) (variable ts)) e
-        ∙ ap (λ (v : Said.Value Name). take v (drop (litOf ts .used) ts)) (literal-only (front ts) (front (drop 1 ts)))
+        ap (λ (b : Bool). literalOr (whether (not b) (startOf (litOf ts .value)) (drop (litOf ts .used) ts)) (variable ts)) e
+        ∙ ap (λ (v : Said.Value Name). took v (drop (litOf ts .used) ts)) (literal-only (front ts) (front (drop 1 ts)))
         ∙ sym (ap (λ (b : Bool). whether (not b) (valueOf (litOf ts .value)) (drop (litOf ts .used) ts)) e)
         ∙ ap (foundValue ts) (sym (operand-by (front ts) (front (drop 1 ts)) false e))
 
@@ -243,43 +258,17 @@ operand-inside [] = rw (asked-none variableName variable-word) (used-cond (eqb (
 operand-inside (t ∷ ts) =
     used-cond (eqb (litOf (t ∷ ts) .used) 0) _ _ _ (used-cond (variableName (nameOf (pack t .key))) _ _ _ (omega arith) (omega arith)) (literal-inside (t ∷ ts))
 
--- A slot that takes a word by a test, and puts it among the parts.
-abbrev firstBy : (Name → Bool) → (Name → Parts → Parts) → List Paper.Token → Parts → Option (Form.Taken Parts)
-firstBy P into [] p = none
-firstBy P into (t ∷ ts) p = whether (P (t .chars)) (into (t .chars) p) ts
-
-first-law : (P : Name → Bool) (passed : (w : Name) → T (P w) → IsWord w) (into : Name → Parts → Parts) (ts : List Paper.Token) (p : Parts) → Goods ts
-    → firstBy P into ts p ≡ whether (P (nameOf (front ts .key))) (into (spelt (front ts .key)) p) (drop 1 ts)
-unfolding pack
-first-law P passed into [] p g = sym (cond-no (P (nameOf 0)) _ _ (asked-none P passed))
-first-law P passed into (t ∷ ts) p g =
-    let h = g .0 in
-    sym
-    (whether-same (P (nameOf (shortKey (t .chars)))) (P (t .chars)) (asked P passed (t .chars) (h .0) (h .1))
-    (λ e. ap (λ (v : Name). into v p) (kept P passed (t .chars) (h .0) (h .1) e))
-    (λ e. refl))
-
--- A slot that takes one of a table of words, and puts its number among the parts.
-abbrev listBy : List Name → List Paper.Token → Parts → Option (Form.Taken Parts)
-listBy names [] p = none
-listBy names (t ∷ ts) p = cond (eqb (numbered names (t .chars)) 0) none (take (Form.selecting (numbered names (t .chars)) p) ts)
-
-list-law : (names : List Name) → T (all isWord names) → (ts : List Paper.Token) (p : Parts) → Goods ts
-    → listBy names ts p ≡ whether (not (eqb (numbered names (nameOf (front ts .key))) 0)) (Form.selecting (numbered names (nameOf (front ts .key))) p) (drop 1 ts)
-unfolding pack
-list-law names a [] p g = sym (cond-no (not (eqb (numbered names (nameOf 0)) 0)) _ _ (asked-none (λ w. not (eqb (numbered names w) 0)) (listed-word names a)))
-list-law names a (t ∷ ts) p g =
-    whether-not (eqb (numbered names (t .chars)) 0) (Form.selecting (numbered names (t .chars)) p) ts
-    ∙ ap (λ (n : ℕ). whether (not (eqb n 0)) (Form.selecting n p) ts) (sym (listed names a (t .chars) (g .0 .0) (g .0 .1)))
-
 -- A slot that takes these very characters.
 eqb-turn : (a b : ℕ) → eqb a b ≡ eqb b a
 eqb-turn a b = same-test (eqb a b) (eqb b a) (λ t. subst (λ (k : ℕ). T (eqb k a)) (eqb→eq a b t) (eqb-refl a)) (λ t. subst (λ (k : ℕ). T (eqb k b)) (eqb→eq b a t) (eqb-refl b))
 
-fixed-law : (n : ℕ) → 0 < n → (ts : List Paper.Token) (p : Parts) → Goods ts → takesFirst (Is (nameOf n)) ts p ≡ whether (eqb n (front ts .key)) p (drop 1 ts)
-unfolding takesFirst takesWord pack
+fixed-law : (n : ℕ) → 0 < n → (ts : List Paper.Token) (p : Parts) → Goods ts
+    → put (λ (w : Name). p) (word (λ (w : Name). eqList w (nameOf n)) ts) ≡ whether (eqb n (front ts .key)) p (drop 1 ts)
+unfolding put word pack
 fixed-law n h [] p g = sym (cond-no (eqb n 0) _ _ (ne-eqb n 0 (λ e. omega arith)))
-fixed-law n h (t ∷ ts) p g = ap (λ (b : Bool). whether b p ts) (spelled-so (t .chars) n (g .0 .0) (g .0 .1) h ∙ eqb-turn (shortKey (t .chars)) n)
+fixed-law n h (t ∷ ts) p g =
+    put-whether (λ (w : Name). p) (eqList (t .chars) (nameOf n)) (t .chars) ts
+    ∙ ap (λ (b : Bool). whether b p ts) (spelled-so (t .chars) n (g .0 .0) (g .0 .1) h ∙ eqb-turn (shortKey (t .chars)) n)
 
 -- What a match took, as the paper's slots hand it on: the parts, and the tokens behind them.
 abbrev after : List Paper.Token → Match → Option (Form.Taken Parts)
@@ -289,36 +278,6 @@ after-onward : (all : List Paper.Token) (m : Match) (b : Bool) (used : ℕ) → 
     → whether b (partsOf m) (drop used (drop (m .place) all)) ≡ after all (onward m b used)
 after-onward all m b used e =
     ap₂ (λ (x : Bool) (ts : List Paper.Token). whether x (partsOf m) ts) (sym (ap (λ (x : Bool). x && b) e)) (drop-drop used (m .place) all)
-
-new-first : (ts : List Paper.Token) (p : Parts) → takesFirst New ts p ≡ firstBy twoCharacters Form.named ts p
-unfolding takesFirst takesWord
-new-first [] p = refl
-new-first (t ∷ ts) p = refl
-
-target-first : (ts : List Paper.Token) (p : Parts) → takesFirst Target ts p ≡ firstBy userName Form.named ts p
-unfolding takesFirst takesWord
-target-first [] p = refl
-target-first (t ∷ ts) p = refl
-
-written-first : (ts : List Paper.Token) (p : Parts) → takesFirst Written ts p ≡ firstBy variableName Form.writing ts p
-unfolding takesFirst takesWord
-written-first [] p = refl
-written-first (t ∷ ts) p = refl
-
-operator-list : (ts : List Paper.Token) (p : Parts) → takesFirst Operator ts p ≡ listBy operators ts p
-unfolding takesFirst takesWord
-operator-list [] p = refl
-operator-list (t ∷ ts) p = refl
-
-comparison-list : (ts : List Paper.Token) (p : Parts) → takesFirst Comparison ts p ≡ listBy comparisons ts p
-unfolding takesFirst takesWord
-comparison-list [] p = refl
-comparison-list (t ∷ ts) p = refl
-
-put-whether : {A : Type 0} (into : A → Parts) (b : Bool) (a : A) (ts : List Paper.Token) → put into (whether b a ts) ≡ whether b (into a) ts
-unfolding put
-put-whether into true a ts = refl
-put-whether into false a ts = refl
 
 slot-fixed : (m : Match) (n : ℕ) (t u : Token) → 8 < n → slotBy m n t u ≡ onward m (eqb n (t .key)) 1
 unfolding slotBy wordBy
@@ -339,6 +298,22 @@ true-of : (b : Bool) → T b → b ≡ true
 true-of true t = refl
 true-of false t = absurd t
 
+operator-law : (p : Parts) (ts : List Paper.Token) → Goods ts
+    → put (operating p) (sign operatorMeant ts)
+    ≡ whether (isOperator (nameOf (front ts .key))) (operating p (operatorBy (nameOf (front ts .key)))) (drop 1 ts)
+unfolding isOperator operatorBy
+operator-law p ts g =
+    sign-word operatorMeant BitXor (operating p) ts
+    ∙ word-law isOperator operator-word nameOf (named isOperator operator-word) (λ (w : Name). operating p (operatorBy w)) ts g
+
+comparison-law : (p : Parts) (ts : List Paper.Token) → Goods ts
+    → put (comparing p) (sign comparisonMeant ts)
+    ≡ whether (isComparison (nameOf (front ts .key))) (comparing p (comparisonBy (nameOf (front ts .key)))) (drop 1 ts)
+unfolding isComparison comparisonBy
+comparison-law p ts g =
+    sign-word comparisonMeant AtLeast (comparing p) ts
+    ∙ word-law isComparison comparison-word nameOf (named isComparison comparison-word) (λ (w : Name). comparing p (comparisonBy w)) ts g
+
 -- Each slot, by its number.
 module _ (all : List Paper.Token) (m : Match) (e : m .ok ≡ true) (g : Goods (drop (m .place) all)) where
   slot-law : {n : ℕ} {s : Slot} → Kind n s
@@ -347,15 +322,16 @@ module _ (all : List Paper.Token) (m : Match) (e : m .ok ≡ true) (g : Goods (d
   slot-law new =
       let ts = drop (m .place) all in
       let k = front ts .key in
-      new-first ts (partsOf m) ∙ first-law twoCharacters two-word Form.named ts (partsOf m) g ∙ after-onward all (withName m k) (twoCharacters (nameOf k)) 1 e
+      word-law twoCharacters two-word spelt (kept twoCharacters two-word) (naming (partsOf m)) ts g ∙ after-onward all (withName m k) (twoCharacters (nameOf k)) 1 e
   slot-law target =
       let ts = drop (m .place) all in
       let k = front ts .key in
-      target-first ts (partsOf m) ∙ first-law userName user-word Form.named ts (partsOf m) g ∙ after-onward all (withName m k) (userName (nameOf k)) 1 e
+      word-law userName user-word spelt (kept userName user-word) (naming (partsOf m)) ts g ∙ after-onward all (withName m k) (userName (nameOf k)) 1 e
   slot-law written =
       let ts = drop (m .place) all in
       let k = front ts .key in
-      written-first ts (partsOf m) ∙ first-law variableName variable-word Form.writing ts (partsOf m) g ∙ after-onward all (withWritten m k) (variableName (nameOf k)) 1 e
+      word-law variableName variable-word spelt (kept variableName variable-word) (writing (partsOf m)) ts g
+      ∙ after-onward all (withWritten m k) (variableName (nameOf k)) 1 e
   slot-law left =
       let ts = drop (m .place) all in
       let x = opOf ts in
@@ -376,12 +352,10 @@ module _ (all : List Paper.Token) (m : Match) (e : m .ok ≡ true) (g : Goods (d
       ∙ after-onward all (withStart m (x .value)) (not (eqb (x .used) 0)) (x .used) e
   slot-law operator =
       let ts = drop (m .place) all in
-      let n = numbered operators (nameOf (front ts .key)) in
-      operator-list ts (partsOf m) ∙ list-law operators operators-words ts (partsOf m) g ∙ after-onward all (withSelector m n) (not (eqb n 0)) 1 e
+      operator-law (partsOf m) ts g ∙ after-onward all (withOperator m (front ts .key)) (isOperator (nameOf (front ts .key))) 1 e
   slot-law comparison =
       let ts = drop (m .place) all in
-      let n = numbered comparisons (nameOf (front ts .key)) in
-      comparison-list ts (partsOf m) ∙ list-law comparisons comparisons-words ts (partsOf m) g ∙ after-onward all (withSelector m n) (not (eqb n 0)) 1 e
+      comparison-law (partsOf m) ts g ∙ after-onward all (withComparison m (front ts .key)) (isComparison (nameOf (front ts .key))) 1 e
   slot-law (fixed n t) =
       let ts = drop (m .place) all in
       let h : 8 < n = ltb-true 8 n (true-of (ltb 8 n) t) in
@@ -403,7 +377,7 @@ slot-used m ts comparison = omega arith
 slot-used m ts (fixed n t) = rw (slot-fixed m n (front ts) (front (drop 1 ts)) (ltb-true 8 n (true-of (ltb 8 n) t))) (omega arith)
 
 takes-none : (s : Slot) (p : Parts) → takes s [] p ≡ none
-unfolding takes takesFirst put operand literal variable
+unfolding takes put word sign operand literal variable
 takes-none (Is w) p = refl
 takes-none New p = refl
 takes-none Target p = refl
@@ -411,8 +385,8 @@ takes-none Written p = refl
 takes-none Left p = refl
 takes-none Right p = refl
 takes-none Start p = refl
-takes-none Operator p = refl
-takes-none Comparison p = refl
+takes-none Operating p = refl
+takes-none Comparing p = refl
 
 some-left : (s : Slot) (ts : List Paper.Token) (p : Parts) {f : Form.Taken Parts} → takes s ts p ≡ some f → 0 < length ts
 some-left s [] p e = absurd (let q : _≡_ {A = ℕ} 0 1 = cc (takes-none s p) in omega arith)

@@ -16,7 +16,7 @@ use Rattle.program.specs.Names.{Name, letter, digit, wordCharacter, reserved, p
 use Rattle.program.specs.Variables.{readOnly, mostCells, mostLabels, mostVariables}
 use Rattle.program.specs.Code.{key, nameOf}
 use Rattle.program.specs.Cells as Cells
-use Rattle.program.specs.Cells.{cell, cellOf, jumpOf, noTarget}
+use Rattle.program.specs.Cells.{cell, cellOf, jumpOf, noTarget, operatorNumber, comparisonNumber}
 use Rattle.program.specs.Statements as Said
 use Rattle.program.specs.Statements.{Literal, Variable, Always, Compare, Statement, operands, writes, targets, compared, Set, SetWith, IC, DC, BR, CL, RT, E, H, Hold, OE, Disarm, MA, MR, SL, PR}
 use Rattle.program.specs.declared.Cell.{Cell}
@@ -340,18 +340,18 @@ module _ (place number : Name → ℕ) where
   unfolding cellOf jumpOf noTarget targets writes operands compared
   cell-resolved (Set v x) h = ap₂ (λ (k : ℕ) (z : Operand). cell 1 k 0 z O.Nothing 0) (write-with v (h .sets .0)) (read-with x (h .reads .0))
   cell-resolved (SetWith v x o y) h =
-      ap₂ (λ (k : ℕ) (z : Operand). cell 2 k o z (Cells.operandOf place number y) 0) (write-with v (h .sets .0)) (read-with x (h .reads .0))
-      ∙ ap (λ (u : Operand). cell 2 (written number (key v)) o (operandWith number (Cells.operandOf key key x)) u 0) (read-with y (h .reads .1 .0))
+      ap₂ (λ (k : ℕ) (z : Operand). cell 2 k (operatorNumber o) z (Cells.operandOf place number y) 0) (write-with v (h .sets .0)) (read-with x (h .reads .0))
+      ∙ ap (λ (u : Operand). cell 2 (written number (key v)) (operatorNumber o) (operandWith number (Cells.operandOf key key x)) u 0) (read-with y (h .reads .1 .0))
   cell-resolved (IC v) h = ap (λ (k : ℕ). cell 3 k 0 O.Nothing O.Nothing 0) (write-with v (h .sets .0))
   cell-resolved (DC v) h = ap (λ (k : ℕ). cell 4 k 0 O.Nothing O.Nothing 0) (write-with v (h .sets .0))
   cell-resolved (BR n Always) h = ap (λ (k : ℕ). cell 5 0 0 O.Nothing O.Nothing k) (aim-with n (h .aims .0))
   cell-resolved (BR n (Compare x c y)) h =
-      ap₂ (λ (k : ℕ) (z : Operand). cell 5 0 c z (Cells.operandOf place number y) k) (aim-with n (h .aims .0)) (read-with x (h .reads .0))
-      ∙ ap (λ (u : Operand). cell 5 0 c (operandWith number (Cells.operandOf key key x)) u (placed place (key n))) (read-with y (h .reads .1 .0))
+      ap₂ (λ (k : ℕ) (z : Operand). cell 5 0 (comparisonNumber c) z (Cells.operandOf place number y) k) (aim-with n (h .aims .0)) (read-with x (h .reads .0))
+      ∙ ap (λ (u : Operand). cell 5 0 (comparisonNumber c) (operandWith number (Cells.operandOf key key x)) u (placed place (key n))) (read-with y (h .reads .1 .0))
   cell-resolved (CL n Always) h = ap (λ (k : ℕ). cell 6 0 0 O.Nothing O.Nothing k) (aim-with n (h .aims .0))
   cell-resolved (CL n (Compare x c y)) h =
-      ap₂ (λ (k : ℕ) (z : Operand). cell 6 0 c z (Cells.operandOf place number y) k) (aim-with n (h .aims .0)) (read-with x (h .reads .0))
-      ∙ ap (λ (u : Operand). cell 6 0 c (operandWith number (Cells.operandOf key key x)) u (placed place (key n))) (read-with y (h .reads .1 .0))
+      ap₂ (λ (k : ℕ) (z : Operand). cell 6 0 (comparisonNumber c) z (Cells.operandOf place number y) k) (aim-with n (h .aims .0)) (read-with x (h .reads .0))
+      ∙ ap (λ (u : Operand). cell 6 0 (comparisonNumber c) (operandWith number (Cells.operandOf key key x)) u (placed place (key n))) (read-with y (h .reads .1 .0))
   cell-resolved RT h = refl
   cell-resolved E h = refl
   cell-resolved H h = refl

@@ -3,6 +3,7 @@ pub mod Scanning
 pub mod Packing
 pub mod Matching
 pub mod Words
+pub mod Signs
 pub mod Filling
 pub mod Rows
 pub mod Packed

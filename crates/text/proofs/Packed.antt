@@ -16,11 +16,11 @@ use Rattle.numbers.specs.Tests.{all, eqList, numbered}
 use Rattle.numbers.specs.Bytes.{ascii}
 use Rattle.program.specs.Names.{Name, twoCharacters, userName}
 use Rattle.program.specs.Statements as Said
-use Rattle.program.specs.Statements.{Literal}
+use Rattle.program.specs.Statements.{Literal, Variable}
 use Rattle.program.proofs.Keys.{both}
 use Rattle.text.specs.Tokens as Paper
 use Rattle.text.specs.Forms as Form
-use Rattle.text.specs.Forms.{Line, digits, decimal, take, literal, variable, operand, variableName, operators, comparisons, Parts, noParts, forms, onLeft, onRight, starting, Slot, Is, New, Target, Written, Left, Right, Start, Operator, Comparison, put, takesWord, takesFirst, takes, fill, byForm}
+use Rattle.text.specs.Forms.{Line, digits, decimal, took, literal, variable, operand, variableName, operatorMeant, comparisonMeant, Parts, noParts, forms, naming, writing, onLeft, operating, comparing, onRight, starting, Slot, Is, New, Target, Written, Left, Right, Start, Operating, Comparing, put, word, sign, takes, fill, byForm}
 use Rattle.text.specs.Code.{pack, noToken, noTokens, tokenAt, pushed, pushedAll, packed}
 use Rattle.text.specs.declared.tokens.Token.{Token}
 use Rattle.text.specs.declared.tokens.Tokens.{Tokens}
@@ -107,8 +107,8 @@ weight Written = 1
 weight Left = 2
 weight Right = 2
 weight Start = 2
-weight Operator = 1
-weight Comparison = 1
+weight Operating = 1
+weight Comparing = 1
 
 weights : List Slot → ℕ
 weights [] = 0
@@ -119,18 +119,32 @@ module _ {A : Type 0} where
   Rests K none = Unit
   Rests K (some f) = K (f .rest)
 
-  rests-cond : (K : List Paper.Token → Type 0) (b : Bool) (a : A) (us : List Paper.Token) (o : Option (Form.Taken A)) → K us → Rests K o → Rests K (cond b (take a us) o)
+  rests-cond : (K : List Paper.Token → Type 0) (b : Bool) (a : A) (us : List Paper.Token) (o : Option (Form.Taken A)) → K us → Rests K o → Rests K (cond b (took a us) o)
   rests-cond K true a us o h k = h
   rests-cond K false a us o h k = k
 
-  rests-else : (K : List Paper.Token → Type 0) (b : Bool) (a : A) (us : List Paper.Token) → K us → Rests K (cond b none (take a us))
-  rests-else K true a us h = tt
-  rests-else K false a us h = h
-
-rests-put : {A : Type 0} (K : List Paper.Token → Type 0) (into : A → Parts) (o : Option (Form.Taken A)) → Rests K o → Rests K (put into o)
+rests-put : {A B : Type 0} (K : List Paper.Token → Type 0) (into : A → B) (o : Option (Form.Taken A)) → Rests K o → Rests K (put into o)
 unfolding put
 rests-put K into none h = tt
 rests-put K into (some f) h = h
+
+word-short : (P : Name → Bool) (ts : List Paper.Token) → Rests (λ us. length ts ≤ 1 + length us) (word P ts)
+unfolding word
+word-short P [] = tt
+word-short P (t ∷ ts) = rests-cond (λ us. length (t ∷ ts) ≤ 1 + length us) (P (t .chars)) (t .chars) ts none (omega arith) tt
+
+sign-short : {A : Type 0} (means : Name → Option A) (ts : List Paper.Token) → Rests (λ us. length ts ≤ 1 + length us) (sign means ts)
+unfolding sign
+sign-short means [] = tt
+sign-short {A} means (t ∷ ts) = pick (means (t .chars))
+  where
+    pick : (o : Option A) → Rests {A = A} (λ us. length (t ∷ ts) ≤ 1 + length us) (elim o [ none ↦ none | some a ↦ took a ts ])
+    pick none = tt
+    pick (some a) = omega arith
+
+rests-more : {A : Type 0} (n : ℕ) (o : Option (Form.Taken A)) → Rests (λ us. n ≤ 1 + length us) o → Rests (λ us. n ≤ 2 + length us) o
+rests-more n none h = tt
+rests-more n (some f) h = omega arith
 
 literal-short : (ts : List Paper.Token) → Rests (λ us. length ts ≤ 2 + length us) (literal ts)
 unfolding literal
@@ -142,35 +156,28 @@ literal-short (t ∷ u ∷ ts) =
 
 variable-short : (ts : List Paper.Token) → Rests (λ us. length ts ≤ 2 + length us) (variable ts)
 unfolding variable
-variable-short [] = tt
-variable-short (t ∷ ts) = rests-cond (λ us. length (t ∷ ts) ≤ 2 + length us) (variableName (t .chars)) _ ts none (omega arith) tt
+variable-short ts = rests-more (length ts) (put Variable (word variableName ts)) (rests-put (λ us. length ts ≤ 1 + length us) Variable (word variableName ts) (word-short variableName ts))
 
 operand-short : (ts : List Paper.Token) → Rests (λ us. length ts ≤ 2 + length us) (operand ts)
 unfolding operand
 operand-short ts = pick (literal ts) (literal-short ts)
   where
     pick : (o : Option (Form.Taken ℤ)) → Rests (λ us. length ts ≤ 2 + length us) o
-        → Rests {A = Said.Value Name} (λ us. length ts ≤ 2 + length us) (elim o [ none ↦ variable ts | some z ↦ take (Literal (z .part)) (z .rest) ])
+        → Rests {A = Said.Value Name} (λ us. length ts ≤ 2 + length us) (elim o [ none ↦ variable ts | some z ↦ took (Literal (z .part)) (z .rest) ])
     pick none h = variable-short ts
     pick (some z) h = h
 
 slot-short : (s : Slot) (ts : List Paper.Token) (p : Parts) → Rests (λ us. length ts ≤ weight s + length us) (takes s ts p)
-unfolding takes takesFirst takesWord weight
-slot-short (Is w) [] p = tt
-slot-short (Is w) (t ∷ ts) p = rests-cond (λ us. length (t ∷ ts) ≤ 1 + length us) (eqList (t .chars) w) _ ts none (omega arith) tt
-slot-short New [] p = tt
-slot-short New (t ∷ ts) p = rests-cond (λ us. length (t ∷ ts) ≤ 1 + length us) (twoCharacters (t .chars)) _ ts none (omega arith) tt
-slot-short Target [] p = tt
-slot-short Target (t ∷ ts) p = rests-cond (λ us. length (t ∷ ts) ≤ 1 + length us) (userName (t .chars)) _ ts none (omega arith) tt
-slot-short Written [] p = tt
-slot-short Written (t ∷ ts) p = rests-cond (λ us. length (t ∷ ts) ≤ 1 + length us) (variableName (t .chars)) _ ts none (omega arith) tt
+unfolding takes weight
+slot-short (Is w) ts p = rests-put (λ us. length ts ≤ 1 + length us) (λ v. p) (word (λ v. eqList v w) ts) (word-short (λ v. eqList v w) ts)
+slot-short New ts p = rests-put (λ us. length ts ≤ 1 + length us) (naming p) (word twoCharacters ts) (word-short twoCharacters ts)
+slot-short Target ts p = rests-put (λ us. length ts ≤ 1 + length us) (naming p) (word userName ts) (word-short userName ts)
+slot-short Written ts p = rests-put (λ us. length ts ≤ 1 + length us) (writing p) (word variableName ts) (word-short variableName ts)
 slot-short Left ts p = rests-put (λ us. length ts ≤ 2 + length us) (onLeft p) (operand ts) (operand-short ts)
 slot-short Right ts p = rests-put (λ us. length ts ≤ 2 + length us) (onRight p) (operand ts) (operand-short ts)
 slot-short Start ts p = rests-put (λ us. length ts ≤ 2 + length us) (starting p) (literal ts) (literal-short ts)
-slot-short Operator [] p = tt
-slot-short Operator (t ∷ ts) p = rests-else (λ us. length (t ∷ ts) ≤ 1 + length us) (eqb (numbered operators (t .chars)) 0) _ ts (omega arith)
-slot-short Comparison [] p = tt
-slot-short Comparison (t ∷ ts) p = rests-else (λ us. length (t ∷ ts) ≤ 1 + length us) (eqb (numbered comparisons (t .chars)) 0) _ ts (omega arith)
+slot-short Operating ts p = rests-put (λ us. length ts ≤ 1 + length us) (operating p) (sign operatorMeant ts) (sign-short operatorMeant ts)
+slot-short Comparing ts p = rests-put (λ us. length ts ≤ 1 + length us) (comparing p) (sign comparisonMeant ts) (sign-short comparisonMeant ts)
 
 fill-short : (ss : List Slot) (ts : List Paper.Token) (p : Parts) → HoldsAt (λ q. length ts ≤ weights ss) (fill ss ts p)
 unfolding fill weights

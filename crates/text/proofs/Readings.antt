@@ -9,14 +9,16 @@ use native.Mathlib.Omega.{arith}
 use borrow.Author.Tests.{lt-ltb, le-ltb, leb-true, leb-false, eq-eqb, ne-eqb}
 use lib.Dec.{eqb, leb}
 use lib.ListN.{length, take, drop}
-use Rattle.numbers.specs.Tests.{all, any, lowest}
+use Rattle.numbers.specs.Tests.{all, any, eqList, lowest}
+use Rattle.numbers.specs.Bytes.{ascii}
 use Rattle.program.specs.Names.{reserved}
+use Rattle.program.specs.Code.{nameOf}
 use Rattle.text.specs.Tokens as Paper
 use Rattle.text.specs.Tokens.{printable, uncommented, tokens}
 use Rattle.text.specs.Forms as Form
-use Rattle.text.specs.Forms.{Line, Blank, Label, Declared, Acts, Parts, noParts, forms, fill, byForm, statement, reading}
+use Rattle.text.specs.Forms.{Line, Blank, Label, Declared, Acts, operatorSign, comparisonSign, meant, operatorMeant, comparisonMeant, Parts, noParts, forms, fill, byForm, statement, reading}
 use Rattle.text.specs.Faults.{longLine, badForm, bigLiteral, reservedName, bigIn, declares, heard}
-use Rattle.text.specs.Code.{tokenAt, pushedAll, valueOf, startOf, meaning, spelt, packed, noMatch, partsOf, slotsOf, fillBy, readParts, formBy, statementBy, lineBy, faulty, readingWith, saidBy, readingOf}
+use Rattle.text.specs.Code.{tokenAt, pushedAll, valueOf, startOf, meaning, spelt, packed, noMatch, operatorBy, comparisonBy, partsOf, slotsOf, fillBy, readParts, formBy, statementBy, lineBy, faulty, readingWith, saidBy, readingOf}
 use Rattle.text.specs.declared.tokens.Tokens.{Tokens}
 use Rattle.text.specs.declared.forms.Match.{Match}
 use Rattle.text.specs.declared.forms.Reading.{Reading}
@@ -49,7 +51,7 @@ abbrev answer : Option Line → Reading
 answer o = elim o [ none ↦ faulty 3 | some x ↦ lineReading x ]
 
 start-parts : partsOf noMatch ≡ noParts
-unfolding spelt valueOf startOf meaning
+unfolding spelt valueOf startOf meaning nameOf operatorBy comparisonBy operatorMeant comparisonMeant meant operatorSign comparisonSign ascii eqList
 start-parts = refl
 
 -- One form after the other.

@@ -13,16 +13,16 @@ use Rattle.numbers.specs.Tests.{any, eqList, numbered}
 use Rattle.program.specs.Names.{Name, reserved, twoCharacters, userName}
 use Rattle.program.specs.Code.{key, nameOf}
 use Rattle.program.specs.Cells as Cells
-use Rattle.program.specs.Cells.{cell, cellOf, jumpOf, noTarget}
+use Rattle.program.specs.Cells.{cell, cellOf, jumpOf, noTarget, operatorNumber, comparisonNumber}
 use Rattle.program.specs.Statements as Said
-use Rattle.program.specs.Statements.{Literal, Variable, Always, Compare, Statement, operands, writes, targets, compared, Set, SetWith, IC, DC, BR, CL, RT, E, H, Hold, OE, Disarm, MA, MR, SL, PR}
+use Rattle.program.specs.Statements.{Literal, Variable, Operator, Comparison, Always, Compare, Statement, operands, writes, targets, compared, Set, SetWith, IC, DC, BR, CL, RT, E, H, Hold, OE, Disarm, MA, MR, SL, PR}
 use Rattle.program.specs.declared.Operand.{Operand}
 use Rattle.program.specs.declared.Operand.the-variants as O
 use Rattle.text.specs.Tokens as Paper
 use Rattle.text.specs.Forms as Form
-use Rattle.text.specs.Forms.{Line, Blank, Label, Declared, Acts, take, literal, variable, operand, variableName, operators, comparisons, Parts, noParts, forms, named, writing, onLeft, onRight, selecting, starting, Slot, Is, New, Target, Written, Left, Right, Start, Operator, Comparison, put, takesWord, takesFirst, takes, fill}
+use Rattle.text.specs.Forms.{Line, Blank, Label, Declared, Acts, took, literal, variable, operand, variableName, operatorMeant, comparisonMeant, Parts, noParts, forms, naming, writing, onLeft, operating, comparing, onRight, starting, Slot, Is, New, Target, Written, Left, Right, Start, Operating, Comparing, put, word, sign, takes, fill}
 use Rattle.text.specs.Faults.{tooBig, bigValue, bigIn, declares}
-use Rattle.text.specs.Code.{formNumbers, smallOf, operandOf, cellBy, leftBy, rightBy, targetBy, sayTable, sayOf, slotTable, slotsOf, sayBy, anyBig, partsBy, readParts, readingWith, faulty, noCell, saidBy}
+use Rattle.text.specs.Code.{formNumbers, smallOf, operandOf, cellBy, selectorBy, leftBy, rightBy, targetBy, sayTable, sayOf, slotTable, slotsOf, sayBy, anyBig, partsBy, readParts, readingWith, faulty, noCell, saidBy}
 use Rattle.text.specs.declared.forms.Reading.{Reading}
 use Rattle.text.proofs.Filling.{new, target, written, left, right, start, operator, comparison, fixed, Slots, end, skip, slot, goOn, cond-yes, cond-no}
 
@@ -34,14 +34,14 @@ Known (Variable v) = T (variableName v)
 -- What a slot does to the parts.
 pub data Effect : Slot → Parts → Parts → Type 0 where
   nothing : {w : Name} {p : Parts} → Effect (Is w) p p
-  declared : {w : Name} {p : Parts} → T (twoCharacters w) → Effect New p (named w p)
-  aimed : {w : Name} {p : Parts} → T (userName w) → Effect Target p (named w p)
-  wrote : {v : Name} {p : Parts} → T (variableName v) → Effect Written p (writing v p)
+  declared : {w : Name} {p : Parts} → T (twoCharacters w) → Effect New p (naming p w)
+  aimed : {w : Name} {p : Parts} → T (userName w) → Effect Target p (naming p w)
+  wrote : {v : Name} {p : Parts} → T (variableName v) → Effect Written p (writing p v)
   onTheLeft : {x : Said.Value Name} {p : Parts} → Known x → Effect Left p (onLeft p x)
   onTheRight : {y : Said.Value Name} {p : Parts} → Known y → Effect Right p (onRight p y)
   started : {z : ℤ} {p : Parts} → Effect Start p (starting p z)
-  operated : {c : ℕ} {p : Parts} → Effect Operator p (selecting c p)
-  compares : {c : ℕ} {p : Parts} → Effect Comparison p (selecting c p)
+  operated : {o : Operator} {p : Parts} → Effect Operating p (operating p o)
+  compares : {c : Comparison} {p : Parts} → Effect Comparing p (comparing p c)
 
 -- What the slots of a form do to the parts, one after the other.
 pub data Filled : List Slot → Parts → Parts → Type 0 where
@@ -53,57 +53,51 @@ module _ {A : Type 0} where
   Holds K none = Unit
   Holds K (some f) = K (f .part)
 
-  holds-cond : (K : A → Type 0) (b : Bool) (a : A) (ts : List Paper.Token) → (T b → K a) → Holds K (cond b (take a ts) none)
+  holds-cond : (K : A → Type 0) (b : Bool) (a : A) (ts : List Paper.Token) → (T b → K a) → Holds K (cond b (took a ts) none)
   holds-cond K true a ts f = f tt
   holds-cond K false a ts f = tt
 
-  holds-not : (K : A → Type 0) (b : Bool) (a : A) (ts : List Paper.Token) → K a → Holds K (cond b none (take a ts))
-  holds-not K true a ts f = tt
-  holds-not K false a ts f = f
+  always : (o : Option (Form.Taken A)) → Holds (λ a. Unit {0}) o
+  always none = tt
+  always (some a) = tt
 
 abbrev pub HoldsAt : (Parts → Type 0) → Option Parts → Type 0
 HoldsAt K none = Unit
 HoldsAt K (some p) = K p
 
-put-holds : {A : Type 0} (K : A → Type 0) (L : Parts → Type 0) (into : A → Parts) (o : Option (Form.Taken A)) → Holds K o → ((a : A) → K a → L (into a)) → Holds L (put into o)
+put-holds : {A B : Type 0} (K : A → Type 0) (L : B → Type 0) (into : A → B) (o : Option (Form.Taken A)) → Holds K o → ((a : A) → K a → L (into a)) → Holds L (put into o)
 unfolding put
 put-holds K L into none h f = tt
 put-holds K L into (some a) h f = f (a .part) h
 
+word-passes : (P : Name → Bool) (ts : List Paper.Token) → Holds (λ w. T (P w)) (word P ts)
+unfolding word
+word-passes P [] = tt
+word-passes P (t ∷ ts) = holds-cond (λ w. T (P w)) (P (t .chars)) (t .chars) ts (λ h. h)
+
 variable-known : (ts : List Paper.Token) → Holds Known (variable ts)
 unfolding variable
-variable-known [] = tt
-variable-known (t ∷ ts) = holds-cond Known (variableName (t .chars)) (Variable (t .chars)) ts (λ h. h)
+variable-known ts = put-holds (λ w. T (variableName w)) Known Variable (word variableName ts) (word-passes variableName ts) (λ w h. h)
 
 operand-known : (ts : List Paper.Token) → Holds Known (operand ts)
 unfolding operand
 operand-known ts = pick (literal ts)
   where
-    pick : (o : Option (Form.Taken ℤ)) → Holds Known (elim o [ none ↦ variable ts | some z ↦ take (Literal (z .part)) (z .rest) ])
+    pick : (o : Option (Form.Taken ℤ)) → Holds Known (elim o [ none ↦ variable ts | some z ↦ took (Literal (z .part)) (z .rest) ])
     pick none = variable-known ts
     pick (some z) = tt
 
-always : (o : Option (Form.Taken ℤ)) → Holds (λ z. Unit {0}) o
-always none = tt
-always (some z) = tt
-
 effect : (s : Slot) (ts : List Paper.Token) (p : Parts) → Holds (λ q. Effect s p q) (takes s ts p)
-unfolding takes takesFirst takesWord
-effect (Is w) [] p = tt
-effect (Is w) (t ∷ ts) p = holds-cond (Effect (Is w) p) (eqList (t .chars) w) p ts (λ h. nothing)
-effect New [] p = tt
-effect New (t ∷ ts) p = holds-cond (Effect New p) (twoCharacters (t .chars)) (named (t .chars) p) ts (λ h. declared h)
-effect Target [] p = tt
-effect Target (t ∷ ts) p = holds-cond (Effect Target p) (userName (t .chars)) (named (t .chars) p) ts (λ h. aimed h)
-effect Written [] p = tt
-effect Written (t ∷ ts) p = holds-cond (Effect Written p) (variableName (t .chars)) (writing (t .chars) p) ts (λ h. wrote h)
+unfolding takes
+effect (Is w) ts p = put-holds (λ v. Unit {0}) (Effect (Is w) p) (λ v. p) (word (λ v. eqList v w) ts) (always (word (λ v. eqList v w) ts)) (λ v h. nothing)
+effect New ts p = put-holds (λ w. T (twoCharacters w)) (Effect New p) (naming p) (word twoCharacters ts) (word-passes twoCharacters ts) (λ w h. declared h)
+effect Target ts p = put-holds (λ w. T (userName w)) (Effect Target p) (naming p) (word userName ts) (word-passes userName ts) (λ w h. aimed h)
+effect Written ts p = put-holds (λ w. T (variableName w)) (Effect Written p) (writing p) (word variableName ts) (word-passes variableName ts) (λ w h. wrote h)
 effect Left ts p = put-holds Known (Effect Left p) (onLeft p) (operand ts) (operand-known ts) (λ x h. onTheLeft h)
 effect Right ts p = put-holds Known (Effect Right p) (onRight p) (operand ts) (operand-known ts) (λ x h. onTheRight h)
 effect Start ts p = put-holds (λ z. Unit {0}) (Effect Start p) (starting p) (literal ts) (always (literal ts)) (λ z h. started)
-effect Operator [] p = tt
-effect Operator (t ∷ ts) p = holds-not (Effect Operator p) (eqb (numbered operators (t .chars)) 0) (selecting (numbered operators (t .chars)) p) ts operated
-effect Comparison [] p = tt
-effect Comparison (t ∷ ts) p = holds-not (Effect Comparison p) (eqb (numbered comparisons (t .chars)) 0) (selecting (numbered comparisons (t .chars)) p) ts compares
+effect Operating ts p = put-holds (λ o. Unit {0}) (Effect Operating p) (operating p) (sign operatorMeant ts) (always (sign operatorMeant ts)) (λ o h. operated)
+effect Comparing ts p = put-holds (λ c. Unit {0}) (Effect Comparing p) (comparing p) (sign comparisonMeant ts) (always (sign comparisonMeant ts)) (λ c h. compares)
 
 holds-map : (K L : Parts → Type 0) → ((q : Parts) → K q → L q) → (o : Option Parts) → HoldsAt K o → HoldsAt L o
 holds-map K L f none h = tt
@@ -142,25 +136,25 @@ unfolding operandOf bigValue Cells.operandOf
 small-operand (Literal z) e = ap O.Literal (small-same z e)
 small-operand (Variable v) e = refl
 
-label-says : (w : Name) → partsBy 1 0 0 (named w noParts) ≡ lineReading (Label w)
+label-says : (w : Name) → partsBy 1 0 0 (naming noParts w) ≡ lineReading (Label w)
 unfolding partsBy sayBy anyBig bigValue tooBig smallOf lineReading bigIn declares any saidBy
 label-says w = ap (λ (b : Bool). cond b (faulty 5) (readingWith 0 1 (key w) (pos 0) noCell)) (sym (or-false (reserved w)))
 
-start-big : (w : Name) (z : ℤ) → anyBig (starting (named w noParts) z) ≡ tooBig z
+start-big : (w : Name) (z : ℤ) → anyBig (starting (naming noParts w) z) ≡ tooBig z
 unfolding anyBig bigValue tooBig
 start-big w z = refl
 
-declared-says : (w : Name) (z : ℤ) → partsBy 2 0 0 (starting (named w noParts) z) ≡ lineReading (Declared w z)
+declared-says : (w : Name) (z : ℤ) → partsBy 2 0 0 (starting (naming noParts w) z) ≡ lineReading (Declared w z)
 unfolding partsBy sayBy lineReading bigIn declares any saidBy
 declared-says w z = pick (tooBig z) refl
   where
     reading : ℤ → Reading
     reading y = readingWith 0 2 (key w) y noCell
 
-    pick : (b : Bool) → tooBig z ≡ b → partsBy 2 0 0 (starting (named w noParts) z) ≡ lineReading (Declared w z)
-    pick true e = cond-yes (anyBig (starting (named w noParts) z)) _ _ (start-big w z ∙ e) ∙ sym (cond-yes (tooBig z) _ _ e)
+    pick : (b : Bool) → tooBig z ≡ b → partsBy 2 0 0 (starting (naming noParts w) z) ≡ lineReading (Declared w z)
+    pick true e = cond-yes (anyBig (starting (naming noParts w) z)) _ _ (start-big w z ∙ e) ∙ sym (cond-yes (tooBig z) _ _ e)
     pick false e =
-        cond-no (anyBig (starting (named w noParts) z)) _ _ (start-big w z ∙ e)
+        cond-no (anyBig (starting (naming noParts w) z)) _ _ (start-big w z ∙ e)
         ∙ ap₂ (λ (b : Bool) (y : ℤ). cond b (faulty 5) (reading y)) (sym (or-false (reserved w))) (small-same z e)
         ∙ sym (cond-no (tooBig z) _ _ e)
 
@@ -249,23 +243,23 @@ sound-VA-start : {q : Parts} → Filled (Is (ascii "VA") ∷ New ∷ Is (ascii "
 sound-VA-start (step nothing (step (declared a) (step nothing (step started done)))) = a
 
 says-set : {q : Parts} → Filled (Written ∷ Is (ascii "=") ∷ Left ∷ []) noParts q → readParts 3 q ≡ lineReading (Acts (Set (q .written) (q .left)))
-unfolding readParts sayOf sayTable anyBig bigValue tooBig any operands compared cellBy leftBy rightBy targetBy cellOf jumpOf noTarget key number
+unfolding readParts sayOf sayTable anyBig bigValue tooBig any operands compared cellBy selectorBy leftBy rightBy targetBy cellOf jumpOf noTarget key number
 says-set (step (wrote {v} _) (step nothing (step (onTheLeft {x} _) done))) = one-says 1 (key v) _ x (Set v x) refl refl refl refl
 
 sound-set : {q : Parts} → Filled (Written ∷ Is (ascii "=") ∷ Left ∷ []) noParts q → Sound (Acts (Set (q .written) (q .left)))
 unfolding targets writes operands compared
 sound-set (step (wrote b) (step nothing (step (onTheLeft d) done))) = record { aims = tt; sets = (b, tt); reads = (d, tt) }
 
-says-set-with : {q : Parts} → Filled (Written ∷ Is (ascii "=") ∷ Left ∷ Operator ∷ Right ∷ []) noParts q → readParts 4 q ≡ lineReading (Acts (SetWith (q .written) (q .left) (q .selector) (q .right)))
-unfolding readParts sayOf sayTable anyBig bigValue tooBig any operands compared cellBy leftBy rightBy targetBy cellOf jumpOf noTarget key number
-says-set-with (step (wrote {v} _) (step nothing (step (onTheLeft {x} _) (step (operated {c}) (step (onTheRight {y} _) done))))) = two-says 2 (key v) c 0 _ x y (SetWith v x c y) refl refl refl refl
+says-set-with : {q : Parts} → Filled (Written ∷ Is (ascii "=") ∷ Left ∷ Operating ∷ Right ∷ []) noParts q → readParts 4 q ≡ lineReading (Acts (SetWith (q .written) (q .left) (q .operator) (q .right)))
+unfolding readParts sayOf sayTable anyBig bigValue tooBig any operands compared cellBy selectorBy leftBy rightBy targetBy cellOf jumpOf noTarget key number
+says-set-with (step (wrote {v} _) (step nothing (step (onTheLeft {x} _) (step (operated {o}) (step (onTheRight {y} _) done))))) = two-says 2 (key v) (operatorNumber o) 0 _ x y (SetWith v x o y) refl refl refl refl
 
-sound-set-with : {q : Parts} → Filled (Written ∷ Is (ascii "=") ∷ Left ∷ Operator ∷ Right ∷ []) noParts q → Sound (Acts (SetWith (q .written) (q .left) (q .selector) (q .right)))
+sound-set-with : {q : Parts} → Filled (Written ∷ Is (ascii "=") ∷ Left ∷ Operating ∷ Right ∷ []) noParts q → Sound (Acts (SetWith (q .written) (q .left) (q .operator) (q .right)))
 unfolding targets writes operands compared
 sound-set-with (step (wrote b) (step nothing (step (onTheLeft d) (step operated (step (onTheRight e) done))))) = record { aims = tt; sets = (b, tt); reads = (d, (e, tt)) }
 
 says-IC : {q : Parts} → Filled (Is (ascii "IC") ∷ Written ∷ []) noParts q → readParts 5 q ≡ lineReading (Acts (IC (q .written)))
-unfolding readParts sayOf sayTable anyBig bigValue tooBig any operands compared cellBy leftBy rightBy targetBy cellOf jumpOf noTarget key number
+unfolding readParts sayOf sayTable anyBig bigValue tooBig any operands compared cellBy selectorBy leftBy rightBy targetBy cellOf jumpOf noTarget key number
 says-IC (step nothing (step (wrote {v} _) done)) = acts-says 3 0 _ (IC v) false refl refl (λ b. refl)
 
 sound-IC : {q : Parts} → Filled (Is (ascii "IC") ∷ Written ∷ []) noParts q → Sound (Acts (IC (q .written)))
@@ -273,7 +267,7 @@ unfolding targets writes operands compared
 sound-IC (step nothing (step (wrote b) done)) = record { aims = tt; sets = (b, tt); reads = tt }
 
 says-DC : {q : Parts} → Filled (Is (ascii "DC") ∷ Written ∷ []) noParts q → readParts 6 q ≡ lineReading (Acts (DC (q .written)))
-unfolding readParts sayOf sayTable anyBig bigValue tooBig any operands compared cellBy leftBy rightBy targetBy cellOf jumpOf noTarget key number
+unfolding readParts sayOf sayTable anyBig bigValue tooBig any operands compared cellBy selectorBy leftBy rightBy targetBy cellOf jumpOf noTarget key number
 says-DC (step nothing (step (wrote {v} _) done)) = acts-says 4 0 _ (DC v) false refl refl (λ b. refl)
 
 sound-DC : {q : Parts} → Filled (Is (ascii "DC") ∷ Written ∷ []) noParts q → Sound (Acts (DC (q .written)))
@@ -281,39 +275,39 @@ unfolding targets writes operands compared
 sound-DC (step nothing (step (wrote b) done)) = record { aims = tt; sets = (b, tt); reads = tt }
 
 says-BR : {q : Parts} → Filled (Is (ascii "BR") ∷ Target ∷ []) noParts q → readParts 7 q ≡ lineReading (Acts (BR (q .name) Always))
-unfolding readParts sayOf sayTable anyBig bigValue tooBig any operands compared cellBy leftBy rightBy targetBy cellOf jumpOf noTarget key number
+unfolding readParts sayOf sayTable anyBig bigValue tooBig any operands compared cellBy selectorBy leftBy rightBy targetBy cellOf jumpOf noTarget key number
 says-BR (step nothing (step (aimed {w} _) done)) = acts-says 5 0 _ (BR w Always) false refl refl (λ b. refl)
 
 sound-BR : {q : Parts} → Filled (Is (ascii "BR") ∷ Target ∷ []) noParts q → Sound (Acts (BR (q .name) Always))
 unfolding targets writes operands compared
 sound-BR (step nothing (step (aimed a) done)) = record { aims = (a, tt); sets = tt; reads = tt }
 
-says-BR-if : {q : Parts} → Filled (Is (ascii "BR") ∷ Target ∷ Is (ascii ",") ∷ Left ∷ Comparison ∷ Right ∷ []) noParts q → readParts 8 q ≡ lineReading (Acts (BR (q .name) (Compare (q .left) (q .selector) (q .right))))
-unfolding readParts sayOf sayTable anyBig bigValue tooBig any operands compared cellBy leftBy rightBy targetBy cellOf jumpOf noTarget key number
-says-BR-if (step nothing (step (aimed {w} _) (step nothing (step (onTheLeft {x} _) (step (compares {c}) (step (onTheRight {y} _) done)))))) = two-says 5 0 c (key w) _ x y (BR w (Compare x c y)) refl refl refl refl
+says-BR-if : {q : Parts} → Filled (Is (ascii "BR") ∷ Target ∷ Is (ascii ",") ∷ Left ∷ Comparing ∷ Right ∷ []) noParts q → readParts 8 q ≡ lineReading (Acts (BR (q .name) (Compare (q .left) (q .comparison) (q .right))))
+unfolding readParts sayOf sayTable anyBig bigValue tooBig any operands compared cellBy selectorBy leftBy rightBy targetBy cellOf jumpOf noTarget key number
+says-BR-if (step nothing (step (aimed {w} _) (step nothing (step (onTheLeft {x} _) (step (compares {c}) (step (onTheRight {y} _) done)))))) = two-says 5 0 (comparisonNumber c) (key w) _ x y (BR w (Compare x c y)) refl refl refl refl
 
-sound-BR-if : {q : Parts} → Filled (Is (ascii "BR") ∷ Target ∷ Is (ascii ",") ∷ Left ∷ Comparison ∷ Right ∷ []) noParts q → Sound (Acts (BR (q .name) (Compare (q .left) (q .selector) (q .right))))
+sound-BR-if : {q : Parts} → Filled (Is (ascii "BR") ∷ Target ∷ Is (ascii ",") ∷ Left ∷ Comparing ∷ Right ∷ []) noParts q → Sound (Acts (BR (q .name) (Compare (q .left) (q .comparison) (q .right))))
 unfolding targets writes operands compared
 sound-BR-if (step nothing (step (aimed a) (step nothing (step (onTheLeft d) (step compares (step (onTheRight e) done)))))) = record { aims = (a, tt); sets = tt; reads = (d, (e, tt)) }
 
 says-CL : {q : Parts} → Filled (Is (ascii "CL") ∷ Target ∷ []) noParts q → readParts 9 q ≡ lineReading (Acts (CL (q .name) Always))
-unfolding readParts sayOf sayTable anyBig bigValue tooBig any operands compared cellBy leftBy rightBy targetBy cellOf jumpOf noTarget key number
+unfolding readParts sayOf sayTable anyBig bigValue tooBig any operands compared cellBy selectorBy leftBy rightBy targetBy cellOf jumpOf noTarget key number
 says-CL (step nothing (step (aimed {w} _) done)) = acts-says 6 0 _ (CL w Always) false refl refl (λ b. refl)
 
 sound-CL : {q : Parts} → Filled (Is (ascii "CL") ∷ Target ∷ []) noParts q → Sound (Acts (CL (q .name) Always))
 unfolding targets writes operands compared
 sound-CL (step nothing (step (aimed a) done)) = record { aims = (a, tt); sets = tt; reads = tt }
 
-says-CL-if : {q : Parts} → Filled (Is (ascii "CL") ∷ Target ∷ Is (ascii ",") ∷ Left ∷ Comparison ∷ Right ∷ []) noParts q → readParts 10 q ≡ lineReading (Acts (CL (q .name) (Compare (q .left) (q .selector) (q .right))))
-unfolding readParts sayOf sayTable anyBig bigValue tooBig any operands compared cellBy leftBy rightBy targetBy cellOf jumpOf noTarget key number
-says-CL-if (step nothing (step (aimed {w} _) (step nothing (step (onTheLeft {x} _) (step (compares {c}) (step (onTheRight {y} _) done)))))) = two-says 6 0 c (key w) _ x y (CL w (Compare x c y)) refl refl refl refl
+says-CL-if : {q : Parts} → Filled (Is (ascii "CL") ∷ Target ∷ Is (ascii ",") ∷ Left ∷ Comparing ∷ Right ∷ []) noParts q → readParts 10 q ≡ lineReading (Acts (CL (q .name) (Compare (q .left) (q .comparison) (q .right))))
+unfolding readParts sayOf sayTable anyBig bigValue tooBig any operands compared cellBy selectorBy leftBy rightBy targetBy cellOf jumpOf noTarget key number
+says-CL-if (step nothing (step (aimed {w} _) (step nothing (step (onTheLeft {x} _) (step (compares {c}) (step (onTheRight {y} _) done)))))) = two-says 6 0 (comparisonNumber c) (key w) _ x y (CL w (Compare x c y)) refl refl refl refl
 
-sound-CL-if : {q : Parts} → Filled (Is (ascii "CL") ∷ Target ∷ Is (ascii ",") ∷ Left ∷ Comparison ∷ Right ∷ []) noParts q → Sound (Acts (CL (q .name) (Compare (q .left) (q .selector) (q .right))))
+sound-CL-if : {q : Parts} → Filled (Is (ascii "CL") ∷ Target ∷ Is (ascii ",") ∷ Left ∷ Comparing ∷ Right ∷ []) noParts q → Sound (Acts (CL (q .name) (Compare (q .left) (q .comparison) (q .right))))
 unfolding targets writes operands compared
 sound-CL-if (step nothing (step (aimed a) (step nothing (step (onTheLeft d) (step compares (step (onTheRight e) done)))))) = record { aims = (a, tt); sets = tt; reads = (d, (e, tt)) }
 
 says-RT : {q : Parts} → Filled (Is (ascii "RT") ∷ []) noParts q → readParts 11 q ≡ lineReading (Acts RT)
-unfolding readParts sayOf sayTable anyBig bigValue tooBig any operands compared cellBy leftBy rightBy targetBy cellOf jumpOf noTarget key number
+unfolding readParts sayOf sayTable anyBig bigValue tooBig any operands compared cellBy selectorBy leftBy rightBy targetBy cellOf jumpOf noTarget key number
 says-RT (step nothing done) = acts-says 7 0 _ RT false refl refl (λ b. refl)
 
 sound-RT : {q : Parts} → Filled (Is (ascii "RT") ∷ []) noParts q → Sound (Acts RT)
@@ -321,7 +315,7 @@ unfolding targets writes operands compared
 sound-RT (step nothing done) = record { aims = tt; sets = tt; reads = tt }
 
 says-E : {q : Parts} → Filled (Is (ascii "E") ∷ []) noParts q → readParts 12 q ≡ lineReading (Acts E)
-unfolding readParts sayOf sayTable anyBig bigValue tooBig any operands compared cellBy leftBy rightBy targetBy cellOf jumpOf noTarget key number
+unfolding readParts sayOf sayTable anyBig bigValue tooBig any operands compared cellBy selectorBy leftBy rightBy targetBy cellOf jumpOf noTarget key number
 says-E (step nothing done) = acts-says 8 0 _ E false refl refl (λ b. refl)
 
 sound-E : {q : Parts} → Filled (Is (ascii "E") ∷ []) noParts q → Sound (Acts E)
@@ -329,7 +323,7 @@ unfolding targets writes operands compared
 sound-E (step nothing done) = record { aims = tt; sets = tt; reads = tt }
 
 says-H : {q : Parts} → Filled (Is (ascii "H") ∷ []) noParts q → readParts 13 q ≡ lineReading (Acts H)
-unfolding readParts sayOf sayTable anyBig bigValue tooBig any operands compared cellBy leftBy rightBy targetBy cellOf jumpOf noTarget key number
+unfolding readParts sayOf sayTable anyBig bigValue tooBig any operands compared cellBy selectorBy leftBy rightBy targetBy cellOf jumpOf noTarget key number
 says-H (step nothing done) = acts-says 9 0 _ H false refl refl (λ b. refl)
 
 sound-H : {q : Parts} → Filled (Is (ascii "H") ∷ []) noParts q → Sound (Acts H)
@@ -337,7 +331,7 @@ unfolding targets writes operands compared
 sound-H (step nothing done) = record { aims = tt; sets = tt; reads = tt }
 
 says-hold : {q : Parts} → Filled (Is (ascii "H") ∷ Left ∷ []) noParts q → readParts 14 q ≡ lineReading (Acts (Hold (q .left)))
-unfolding readParts sayOf sayTable anyBig bigValue tooBig any operands compared cellBy leftBy rightBy targetBy cellOf jumpOf noTarget key number
+unfolding readParts sayOf sayTable anyBig bigValue tooBig any operands compared cellBy selectorBy leftBy rightBy targetBy cellOf jumpOf noTarget key number
 says-hold (step nothing (step (onTheLeft {x} _) done)) = one-says 9 0 _ x (Hold x) refl refl refl refl
 
 sound-hold : {q : Parts} → Filled (Is (ascii "H") ∷ Left ∷ []) noParts q → Sound (Acts (Hold (q .left)))
@@ -345,7 +339,7 @@ unfolding targets writes operands compared
 sound-hold (step nothing (step (onTheLeft d) done)) = record { aims = tt; sets = tt; reads = (d, tt) }
 
 says-OE : {q : Parts} → Filled (Is (ascii "OE") ∷ Target ∷ []) noParts q → readParts 15 q ≡ lineReading (Acts (OE (q .name)))
-unfolding readParts sayOf sayTable anyBig bigValue tooBig any operands compared cellBy leftBy rightBy targetBy cellOf jumpOf noTarget key number
+unfolding readParts sayOf sayTable anyBig bigValue tooBig any operands compared cellBy selectorBy leftBy rightBy targetBy cellOf jumpOf noTarget key number
 says-OE (step nothing (step (aimed {w} _) done)) = acts-says 10 0 _ (OE w) false refl refl (λ b. refl)
 
 sound-OE : {q : Parts} → Filled (Is (ascii "OE") ∷ Target ∷ []) noParts q → Sound (Acts (OE (q .name)))
@@ -353,7 +347,7 @@ unfolding targets writes operands compared
 sound-OE (step nothing (step (aimed a) done)) = record { aims = (a, tt); sets = tt; reads = tt }
 
 says-disarm : {q : Parts} → Filled (Is (ascii "OE") ∷ Is (ascii "0") ∷ []) noParts q → readParts 16 q ≡ lineReading (Acts Disarm)
-unfolding readParts sayOf sayTable anyBig bigValue tooBig any operands compared cellBy leftBy rightBy targetBy cellOf jumpOf noTarget key number
+unfolding readParts sayOf sayTable anyBig bigValue tooBig any operands compared cellBy selectorBy leftBy rightBy targetBy cellOf jumpOf noTarget key number
 says-disarm (step nothing (step nothing done)) = acts-says 10 3 _ Disarm false refl refl (λ b. refl)
 
 sound-disarm : {q : Parts} → Filled (Is (ascii "OE") ∷ Is (ascii "0") ∷ []) noParts q → Sound (Acts Disarm)
@@ -361,7 +355,7 @@ unfolding targets writes operands compared
 sound-disarm (step nothing (step nothing done)) = record { aims = tt; sets = tt; reads = tt }
 
 says-MA : {q : Parts} → Filled (Is (ascii "MA") ∷ Left ∷ []) noParts q → readParts 17 q ≡ lineReading (Acts (MA (q .left)))
-unfolding readParts sayOf sayTable anyBig bigValue tooBig any operands compared cellBy leftBy rightBy targetBy cellOf jumpOf noTarget key number
+unfolding readParts sayOf sayTable anyBig bigValue tooBig any operands compared cellBy selectorBy leftBy rightBy targetBy cellOf jumpOf noTarget key number
 says-MA (step nothing (step (onTheLeft {x} _) done)) = one-says 11 0 _ x (MA x) refl refl refl refl
 
 sound-MA : {q : Parts} → Filled (Is (ascii "MA") ∷ Left ∷ []) noParts q → Sound (Acts (MA (q .left)))
@@ -369,7 +363,7 @@ unfolding targets writes operands compared
 sound-MA (step nothing (step (onTheLeft d) done)) = record { aims = tt; sets = tt; reads = (d, tt) }
 
 says-MR : {q : Parts} → Filled (Is (ascii "MR") ∷ Left ∷ []) noParts q → readParts 18 q ≡ lineReading (Acts (MR (q .left)))
-unfolding readParts sayOf sayTable anyBig bigValue tooBig any operands compared cellBy leftBy rightBy targetBy cellOf jumpOf noTarget key number
+unfolding readParts sayOf sayTable anyBig bigValue tooBig any operands compared cellBy selectorBy leftBy rightBy targetBy cellOf jumpOf noTarget key number
 says-MR (step nothing (step (onTheLeft {x} _) done)) = one-says 12 0 _ x (MR x) refl refl refl refl
 
 sound-MR : {q : Parts} → Filled (Is (ascii "MR") ∷ Left ∷ []) noParts q → Sound (Acts (MR (q .left)))
@@ -377,7 +371,7 @@ unfolding targets writes operands compared
 sound-MR (step nothing (step (onTheLeft d) done)) = record { aims = tt; sets = tt; reads = (d, tt) }
 
 says-SL : {q : Parts} → Filled (Is (ascii "SL") ∷ Left ∷ []) noParts q → readParts 19 q ≡ lineReading (Acts (SL (q .left)))
-unfolding readParts sayOf sayTable anyBig bigValue tooBig any operands compared cellBy leftBy rightBy targetBy cellOf jumpOf noTarget key number
+unfolding readParts sayOf sayTable anyBig bigValue tooBig any operands compared cellBy selectorBy leftBy rightBy targetBy cellOf jumpOf noTarget key number
 says-SL (step nothing (step (onTheLeft {x} _) done)) = one-says 13 0 _ x (SL x) refl refl refl refl
 
 sound-SL : {q : Parts} → Filled (Is (ascii "SL") ∷ Left ∷ []) noParts q → Sound (Acts (SL (q .left)))
@@ -385,7 +379,7 @@ unfolding targets writes operands compared
 sound-SL (step nothing (step (onTheLeft d) done)) = record { aims = tt; sets = tt; reads = (d, tt) }
 
 says-PR : {q : Parts} → Filled (Is (ascii "PR") ∷ Left ∷ []) noParts q → readParts 20 q ≡ lineReading (Acts (PR (q .left)))
-unfolding readParts sayOf sayTable anyBig bigValue tooBig any operands compared cellBy leftBy rightBy targetBy cellOf jumpOf noTarget key number
+unfolding readParts sayOf sayTable anyBig bigValue tooBig any operands compared cellBy selectorBy leftBy rightBy targetBy cellOf jumpOf noTarget key number
 says-PR (step nothing (step (onTheLeft {x} _) done)) = one-says 14 0 _ x (PR x) refl refl refl refl
 
 sound-PR : {q : Parts} → Filled (Is (ascii "PR") ∷ Left ∷ []) noParts q → Sound (Acts (PR (q .left)))

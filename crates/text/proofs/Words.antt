@@ -6,17 +6,16 @@ use mathlib.Core.List.{List, [], _∷_}
 use mathlib.Core.Logic.{_⊎_, inl, inr, ⊎-elim}
 use Prim.Native.Nat.{ℕ, _≤_, _<_}
 use native.Mathlib.Omega.{arith}
-use borrow.Author.Tests.{leb-true, leb-false, ne-eqb, eqb-true}
+use borrow.Author.Tests.{leb-true, leb-false, ne-eqb}
 use lib.Dec.{T, eqb, leb}
 use lib.ListN.{length, getD}
 use Rattle.numbers.specs.Tests.{all, eqList, numbered}
-use Rattle.numbers.specs.Bytes.{ascii}
 use Rattle.program.specs.Names.{Name, paperVariable, userName}
 use Rattle.program.specs.Code.{key, nameOf}
 use Rattle.program.proofs.Keys.{both, either, Character, Characters, IsWord, single, double, word-of, name-key, name-one, name-two, one-or-two, key-positive, eq-key-name, eqList-eq, user-word, paper-word, numbered-word, isWord}
 use Rattle.text.specs.Tokens as Paper
 use Rattle.text.specs.Tokens.{printable, uncommented, joins, longer, tokens}
-use Rattle.text.specs.Forms.{operators, comparisons, variableName}
+use Rattle.text.specs.Forms.{variableName}
 use Rattle.text.specs.Code.{shortKey, spelt}
 
 -- A token has characters, each of which can be one of a word.
@@ -107,6 +106,10 @@ module _ (P : Name → Bool) (passed : (w : Name) → T (P w) → IsWord w) wher
       (λ s. ap (λ (k : ℕ). P (nameOf k)) (s .1) ∙ asked-none ∙ sym (no-test (P w) (λ t. word-short (passed w t) (s .0))))
       (word-or-long w h l)
 
+  pub named : (w : Name) → Characters w → 0 < length w → P w ≡ true → nameOf (shortKey w) ≡ w
+  named w h l e =
+      ⊎-elim (λ s. ap nameOf (s .1) ∙ name-key w (s .0)) (λ s. absurd (word-short (passed w (subst T (sym e) tt)) (s .0))) (word-or-long w h l)
+
   pub kept : (w : Name) → Characters w → 0 < length w → P w ≡ true → spelt (shortKey w) ≡ w
   unfolding spelt
   kept w h l e =
@@ -122,23 +125,6 @@ not-zero n t e = subst (λ (k : ℕ). T (not (eqb k 0))) e t
 module _ (names : List Name) (all-words : T (all isWord names)) where
   pub listed-word : (w : Name) → T (not (eqb (numbered names w) 0)) → IsWord w
   listed-word w t = numbered-word names w all-words (not-zero (numbered names w) t)
-
-  pub listed : (w : Name) → Characters w → 0 < length w → numbered names (nameOf (shortKey w)) ≡ numbered names w
-  listed w h l =
-      ⊎-elim
-      (λ s. ap (numbered names) (ap nameOf (s .1) ∙ name-key w (s .0)))
-      (λ s.
-      ap (λ (k : ℕ). numbered names (nameOf k)) (s .1)
-      ∙ none (nameOf 0) (λ i. zero-no-word (subst IsWord zero-name i))
-      ∙ sym (none w (λ i. word-short i (s .0))))
-      (word-or-long w h l)
-    where
-      none : (v : Name) → (IsWord v → ⊥) → numbered names v ≡ 0
-      none v f = pick (eqb (numbered names v) 0) refl
-        where
-          pick : (t : Bool) → eqb (numbered names v) 0 ≡ t → numbered names v ≡ 0
-          pick true e = eqb-true (numbered names v) 0 e
-          pick false e = absurd (f (listed-word v (subst (λ (t : Bool). T (not t)) (sym e) tt)))
 
 -- The very characters of a key.
 name-short : (n : ℕ) → length (nameOf n) ≤ 2
@@ -157,11 +143,3 @@ spelled-so w n h l z =
 pub variable-word : (w : Name) → T (variableName w) → IsWord w
 unfolding variableName
 variable-word w t = ⊎-elim (λ p. paper-word w (not-zero (paperVariable w) p)) (user-word w) (either (not (eqb (paperVariable w) 0)) (userName w) t)
-
-pub operators-words : T (all isWord operators)
-unfolding all operators ascii
-operators-words = tt
-
-pub comparisons-words : T (all isWord comparisons)
-unfolding all comparisons ascii
-comparisons-words = tt

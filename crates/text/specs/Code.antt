@@ -4,15 +4,17 @@ use mathlib.Core.Path.{_≡_}
 use mathlib.Core.Bool.{Bool, true, false, cond, _&&_, _||_, not}
 use mathlib.Core.List.{List, [], _∷_}
 use mathlib.Core.Logic.{_⊎_}
+use mathlib.Core.Option.{Option, none, some}
 use Prim.Native.Nat.{ℕ, zero, suc, _+_, _*_, _-_, _%_, _^_, _≤_, _<_}
 use lib.Dec.{eqb, leb, ltb}
 use lib.ListN.{length, take, drop, getD, set, replicate}
 use lib.IntN.{ℤ, pos, negℤ}
-use Rattle.numbers.specs.Tests.{all, numbered, lowest}
+use Rattle.numbers.specs.Bytes.{ascii}
+use Rattle.numbers.specs.Tests.{all, lowest}
 use Rattle.program.specs.Names.{Name, digit, reserved, twoCharacters, userName}
 use Rattle.program.specs.Code.{key, nameOf}
-use Rattle.program.specs.Cells.{cell, cellOf, noTarget}
-use Rattle.program.specs.Statements.{Literal, Variable}
+use Rattle.program.specs.Cells.{cell, cellOf, noTarget, operatorNumber, comparisonNumber}
+use Rattle.program.specs.Statements.{Literal, Variable, Operator, BitXor, Comparison, AtLeast}
 use Rattle.program.specs.Statements as Said
 use Rattle.program.specs.declared.Cell.{Cell}
 use Rattle.program.specs.declared.Operand.{Operand}
@@ -20,7 +22,7 @@ use Rattle.program.specs.declared.Operand.the-variants as O
 use Rattle.text.specs.Lines.{lines}
 use Rattle.text.specs.Tokens as Paper
 use Rattle.text.specs.Tokens.{printable, uncommented, tokens, joins}
-use Rattle.text.specs.Forms.{Line, Blank, Label, Declared, Acts, digits, decimal, operators, comparisons, variableName, Parts}
+use Rattle.text.specs.Forms.{Line, Blank, Label, Declared, Acts, digits, decimal, operatorMeant, comparisonMeant, variableName, Parts, parts}
 use Rattle.text.specs.Faults.{longLine, badForm, bigLiteral, reservedName, heard, tooBig, bigValue}
 use Rattle.text.specs.declared.Span.{Span}
 use Rattle.text.specs.declared.tokens.Word.{Word}
@@ -169,34 +171,75 @@ unfoldable pub operandBy : Token → Token → Taken
 operandBy t u = cond (eqb (literalBy t u .used) 0) (variableBy (t .key)) (literalBy t u)
 
 -- What the slots of a form took so far: whether each took something, where the next token stands, and the parts.
-abbrev pub match : Bool → ℕ → ℕ → ℕ → Value → ℕ → Value → Value → Match
-match ok place name written left selector right start =
-    record { ok = ok; place = place; name = name; written = written; left = left; selector = selector; right = right; start = start }
+abbrev pub match : Bool → ℕ → ℕ → ℕ → Value → ℕ → ℕ → Value → Value → Match
+match ok place name written left operator comparison right start =
+    record {
+      ok = ok;
+      place = place;
+      name = name;
+      written = written;
+      left = left;
+      operator = operator;
+      comparison = comparison;
+      right = right;
+      start = start;
+    }
 
 abbrev pub noMatch : Match
-noMatch = match true 0 0 0 zeroValue 0 zeroValue zeroValue
+noMatch = match true 0 0 0 zeroValue 0 0 zeroValue zeroValue
 
 -- So many tokens on.
 abbrev pub onward : Match → Bool → ℕ → Match
-onward m ok used = match (m .ok && ok) (m .place + used) (m .name) (m .written) (m .left) (m .selector) (m .right) (m .start)
+onward m ok used = match (m .ok && ok) (m .place + used) (m .name) (m .written) (m .left) (m .operator) (m .comparison) (m .right) (m .start)
 
 abbrev pub withName : Match → ℕ → Match
-withName m k = match (m .ok) (m .place) k (m .written) (m .left) (m .selector) (m .right) (m .start)
+withName m k = match (m .ok) (m .place) k (m .written) (m .left) (m .operator) (m .comparison) (m .right) (m .start)
 
 abbrev pub withWritten : Match → ℕ → Match
-withWritten m k = match (m .ok) (m .place) (m .name) k (m .left) (m .selector) (m .right) (m .start)
+withWritten m k = match (m .ok) (m .place) (m .name) k (m .left) (m .operator) (m .comparison) (m .right) (m .start)
 
-abbrev pub withSelector : Match → ℕ → Match
-withSelector m n = match (m .ok) (m .place) (m .name) (m .written) (m .left) n (m .right) (m .start)
+abbrev pub withOperator : Match → ℕ → Match
+withOperator m k = match (m .ok) (m .place) (m .name) (m .written) (m .left) k (m .comparison) (m .right) (m .start)
+
+abbrev pub withComparison : Match → ℕ → Match
+withComparison m k = match (m .ok) (m .place) (m .name) (m .written) (m .left) (m .operator) k (m .right) (m .start)
 
 abbrev pub withLeft : Match → Value → Match
-withLeft m v = match (m .ok) (m .place) (m .name) (m .written) v (m .selector) (m .right) (m .start)
+withLeft m v = match (m .ok) (m .place) (m .name) (m .written) v (m .operator) (m .comparison) (m .right) (m .start)
 
 abbrev pub withRight : Match → Value → Match
-withRight m v = match (m .ok) (m .place) (m .name) (m .written) (m .left) (m .selector) v (m .start)
+withRight m v = match (m .ok) (m .place) (m .name) (m .written) (m .left) (m .operator) (m .comparison) v (m .start)
 
 abbrev pub withStart : Match → Value → Match
-withStart m v = match (m .ok) (m .place) (m .name) (m .written) (m .left) (m .selector) (m .right) v
+withStart m v = match (m .ok) (m .place) (m .name) (m .written) (m .left) (m .operator) (m .comparison) (m .right) v
+
+-- A sign: whether the characters are one, and what they stand for; what is no sign counts as the last.
+unfoldable pub known : {A : Type 0} → Option A → Bool
+known none = false
+known (some a) = true
+
+unfoldable pub isOperator : Name → Bool
+isOperator w = known (operatorMeant w)
+
+unfoldable pub isComparison : Name → Bool
+isComparison w = known (comparisonMeant w)
+
+abbrev pub orElse : {A : Type 0} → A → Option A → A
+orElse d none = d
+orElse d (some a) = a
+
+unfoldable pub operatorBy : Name → Operator
+operatorBy w = orElse BitXor (operatorMeant w)
+
+unfoldable pub comparisonBy : Name → Comparison
+comparisonBy w = orElse AtLeast (comparisonMeant w)
+
+-- The signs in the order of their numbers.
+unfoldable pub operatorSigns : List Name
+operatorSigns = ascii "+" ∷ ascii "-" ∷ ascii "*" ∷ ascii "/" ∷ ascii "&" ∷ ascii "|" ∷ ascii "^" ∷ []
+
+unfoldable pub comparisonSigns : List Name
+comparisonSigns = ascii "=" ∷ ascii "<>" ∷ ascii "<" ∷ ascii "<=" ∷ ascii ">" ∷ ascii ">=" ∷ []
 
 -- A slot that takes a word, by the word's key.
 unfoldable pub wordBy : Match → ℕ → ℕ → Match
@@ -204,8 +247,8 @@ wordBy m slot k =
     cond (eqb slot 1) (onward (withName m k) (twoCharacters (nameOf k)) 1)
     (cond (eqb slot 2) (onward (withName m k) (userName (nameOf k)) 1)
     (cond (eqb slot 3) (onward (withWritten m k) (variableName (nameOf k)) 1)
-    (cond (eqb slot 7) (onward (withSelector m (numbered operators (nameOf k))) (not (eqb (numbered operators (nameOf k)) 0)) 1)
-    (cond (eqb slot 8) (onward (withSelector m (numbered comparisons (nameOf k))) (not (eqb (numbered comparisons (nameOf k)) 0)) 1)
+    (cond (eqb slot 7) (onward (withOperator m k) (isOperator (nameOf k)) 1)
+    (cond (eqb slot 8) (onward (withComparison m k) (isComparison (nameOf k)) 1)
     (onward m (eqb slot k) 1)))))
 
 -- A slot, with the next two tokens; slot 0 takes nothing.
@@ -286,7 +329,8 @@ sayOf form column = getD (getD sayTable form []) column 0
 -- The parts that a match took, as the paper has them.
 abbrev pub partsOf : Match → Parts
 partsOf m =
-    record { name = spelt (m .name); written = spelt (m .written); left = valueOf (m .left); selector = m .selector; right = valueOf (m .right); start = startOf (m .start) }
+    parts (spelt (m .name)) (spelt (m .written)) (valueOf (m .left)) (operatorBy (nameOf (m .operator))) (comparisonBy (nameOf (m .comparison)))
+    (valueOf (m .right)) (startOf (m .start))
 
 -- A literal that is too big is never put into a cell.
 unfoldable pub smallOf : ℤ → ℤ
@@ -309,9 +353,13 @@ rightBy shape x = cond (eqb shape 2) (operandOf x) O.Nothing
 unfoldable pub targetBy : ℕ → ℕ → ℕ
 targetBy shape k = cond (eqb shape 3) noTarget k
 
+unfoldable pub selectorBy : ℕ → ℕ → Parts → ℕ
+selectorBy operation shape p =
+    cond (eqb shape 2) (cond (eqb operation 2) (operatorNumber (p .operator)) (comparisonNumber (p .comparison))) 0
+
 unfoldable pub cellBy : ℕ → ℕ → Parts → Cell
 cellBy operation shape p =
-    cell operation (key (p .written)) (p .selector) (leftBy shape (p .left)) (rightBy shape (p .right)) (targetBy shape (key (p .name)))
+    cell operation (key (p .written)) (selectorBy operation shape p) (leftBy shape (p .left)) (rightBy shape (p .right)) (targetBy shape (key (p .name)))
 
 -- What reading a line gives: a fault; or what the line says.
 abbrev pub readingWith : ℕ → ℕ → ℕ → ℤ → Cell → Reading

@@ -8,11 +8,11 @@ use program::names;
 ghost use mathlib.Core.Path.{_≡_};
 ghost use Prim.Native.Nat.{_<_};
 ghost use lib.ListN.{getD};
-ghost use Rattle.numbers.specs.Tests.{numbered};
+ghost use Rattle.program.specs.Cells.{operatorNumber, comparisonNumber};
 ghost use Rattle.program.specs.Code.{nameOf};
-ghost use Rattle.text.specs.Forms.{operators, comparisons, variableName};
+ghost use Rattle.text.specs.Forms.{variableName};
 ghost use Rattle.text.specs.Faults.{bigValue};
-ghost use Rattle.text.specs.Code.{valueOf, startOf, meaning, smallOf, operandOf, noMatch, onward, withLeft, withRight, withStart, literalBy, variableBy, operandBy, wordBy, slotBy, fillBy, slotsOf, sayOf, partsOf, leftBy, rightBy, targetBy, cellBy, noCell, faulty, sayBy, anyBig, readParts, formBy, formNumbers, statementBy};
+ghost use Rattle.text.specs.Code.{valueOf, startOf, meaning, smallOf, operandOf, noMatch, onward, withLeft, withRight, withStart, literalBy, variableBy, operandBy, isOperator, isComparison, operatorBy, comparisonBy, wordBy, slotBy, fillBy, slotsOf, sayOf, partsOf, leftBy, rightBy, targetBy, selectorBy, cellBy, noCell, faulty, sayBy, anyBig, readParts, formBy, formNumbers, statementBy};
 
 // How many values a character of a key has.
 const BYTE: u16 = 256;
@@ -153,14 +153,15 @@ pub struct Taken {
     pub value: Value,
 }
 
-// What the slots of a form took so far: whether each took something, where the next token stands, and the parts.
+// What the slots of a form took so far: whether each took something, where the next token stands, and the parts; a name and a sign by its key.
 pub struct Match {
     pub ok: bool,
     pub place: usize,
     pub name: u16,
     pub written: u16,
     pub left: Value,
-    pub selector: u8,
+    pub operator: u16,
+    pub comparison: u16,
     pub right: Value,
     pub start: Value,
 }
@@ -222,20 +223,41 @@ fn no_cell() -> Cell
 fn is_variable(key: u16) -> bool
     ensures { λ r. ⌜ r ≡ variableName (nameOf key) ⌝ }
 {
-    (names::variable_number(key) != 0) | names::is_user_name(key)
+    (Variable::number_of(key) != 0) | names::is_user_name(key)
 }
 
-// The number of an operator and of a comparison, from 1; 0 for any other word.
-fn operator_number(key: u16) -> u8
-    ensures { λ r. ⌜ r ≡ numbered operators (nameOf key) ⌝ }
+// The sign of an operator; of a comparison.
+fn is_operator(key: u16) -> bool
+    ensures { λ r. ⌜ r ≡ isOperator (nameOf key) ⌝ }
 {
-    names::place_in(&OPERATORS, key) as u8
+    names::place_in(&OPERATORS, key) != 0
+}
+
+fn is_comparison(key: u16) -> bool
+    ensures { λ r. ⌜ r ≡ isComparison (nameOf key) ⌝ }
+{
+    names::place_in(&COMPARISONS, key) != 0
+}
+
+// The number that a sign has in a cell; what is no sign gets the last one.
+fn operator_number(key: u16) -> u8
+    ensures { λ r. ⌜ r ≡ operatorNumber (operatorBy (nameOf key)) ⌝ }
+{
+    let place = names::place_in(&OPERATORS, key);
+    if place == 0 {
+        return Cell::XOR;
+    }
+    place as u8
 }
 
 fn comparison_number(key: u16) -> u8
-    ensures { λ r. ⌜ r ≡ numbered comparisons (nameOf key) ⌝ }
+    ensures { λ r. ⌜ r ≡ comparisonNumber (comparisonBy (nameOf key)) ⌝ }
 {
-    names::place_in(&COMPARISONS, key) as u8
+    let place = names::place_in(&COMPARISONS, key);
+    if place == 0 {
+        return Cell::AT_LEAST;
+    }
+    place as u8
 }
 
 // A literal at the front of two tokens: digits, or a minus with digits directly behind it.
@@ -295,7 +317,8 @@ impl Match {
             name: 0,
             written: 0,
             left: Value::Literal(false, 0),
-            selector: 0,
+            operator: 0,
+            comparison: 0,
             right: Value::Literal(false, 0),
             start: Value::Literal(false, 0),
         }
@@ -323,7 +346,8 @@ impl Match {
             name: self.name,
             written: self.written,
             left: value,
-            selector: self.selector,
+            operator: self.operator,
+            comparison: self.comparison,
             right,
             start,
         }
@@ -341,7 +365,8 @@ impl Match {
             name: self.name,
             written: self.written,
             left,
-            selector: self.selector,
+            operator: self.operator,
+            comparison: self.comparison,
             right: value,
             start,
         }
@@ -359,7 +384,8 @@ impl Match {
             name: self.name,
             written: self.written,
             left,
-            selector: self.selector,
+            operator: self.operator,
+            comparison: self.comparison,
             right,
             start: value,
         }
@@ -383,14 +409,12 @@ impl Match {
             return self.onward(is_variable(key), 1);
         }
         if slot == OPERATOR {
-            let n = operator_number(key);
-            self.selector = n;
-            return self.onward(n != 0, 1);
+            self.operator = key;
+            return self.onward(is_operator(key), 1);
         }
         if slot == COMPARISON {
-            let n = comparison_number(key);
-            self.selector = n;
-            return self.onward(n != 0, 1);
+            self.comparison = key;
+            return self.onward(is_comparison(key), 1);
         }
         self.onward(slot == key, 1)
     }
@@ -519,12 +543,25 @@ fn target(shape: u8, key: u16) -> u16
     ensures { λ r. ⌜ r ≡ targetBy shape key ⌝ }
 {
     if shape == NO_TARGET {
-        return Cell::NO_HANDLER;
+        return Cell::NO_TARGET;
     }
     key
 }
 
 impl Match {
+    // The operator or the comparison of a statement with this operation and shape, by its number.
+    fn selector(self, operation: u8, shape: u8) -> u8
+        ensures { λ r. ⌜ r ≡ selectorBy operation shape (partsOf self) ⌝ }
+    {
+        if shape != TWO {
+            return 0;
+        }
+        if operation == Cell::SET_WITH {
+            return operator_number(self.operator);
+        }
+        comparison_number(self.comparison)
+    }
+
     fn cell(self, operation: u8, shape: u8) -> Cell
         ensures { λ r. ⌜ r ≡ cellBy operation shape (partsOf self) ⌝ }
     {
@@ -533,7 +570,7 @@ impl Match {
         Cell {
             operation,
             written: self.written,
-            selector: self.selector,
+            selector: self.selector(operation, shape),
             left: left.left(shape),
             right: right.right(shape),
             target: target(shape, self.name),

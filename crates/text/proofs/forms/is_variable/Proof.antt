@@ -5,8 +5,8 @@ use Rattle.text.specs.Forms.{variableName}
 use Rattle.text.proofs.forms.is_variable.Statement.{statement}
 use Rattle.text.proofs.forms.is_variable.Tie as tie
 
-variable-number-requires : tie.Need-variable-number-requires
-variable-number-requires c κs = search needs
+number-of-requires : tie.Need-number-of-requires
+number-of-requires c κs = search needs
 
 is-user-name-requires : tie.Need-is-user-name-requires
 is-user-name-requires c κs = search needs
@@ -16,4 +16,4 @@ unfolding variableName
 returns c = cc
 
 pub is-variable-spec : {M : Type 1} → statement M
-is-variable-spec = tie.close (tie.spec variable-number-requires is-user-name-requires returns)
+is-variable-spec = tie.close (tie.spec number-of-requires is-user-name-requires returns)

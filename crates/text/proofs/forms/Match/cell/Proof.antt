@@ -6,6 +6,9 @@ use Rattle.text.proofs.Matching.{key-spelt}
 use Rattle.text.proofs.forms.Match.cell.Statement.{statement}
 use Rattle.text.proofs.forms.Match.cell.Tie as tie
 
+selector-requires : tie.Need-selector-requires
+selector-requires c κs = search needs
+
 left-requires : tie.Need-left-requires
 left-requires c κs = search needs
 
@@ -18,8 +21,8 @@ target-requires c κs = search needs
 returns : tie.Need-returns
 unfolding cellBy
 returns c =
-    let m = c .before .before .before .args .self in
-    rw (c .before .before .left .ensures, c .before .right .ensures, c .target .ensures, key-spelt (m .written), key-spelt (m .name))
+    let m = c .before .before .before .before .args .self in
+    rw (c .before .before .before .selector .ensures, c .before .before .left .ensures, c .before .right .ensures, c .target .ensures, key-spelt (m .written), key-spelt (m .name))
 
 pub cell-spec : {M : Type 1} → statement M
-cell-spec = tie.close (tie.spec left-requires right-requires target-requires returns)
+cell-spec = tie.close (tie.spec selector-requires left-requires right-requires target-requires returns)

@@ -36,25 +36,25 @@ returns-3 : tie.Need-returns-3
 unfolding wordBy
 returns-3 c = rw (c .onward3 .ensures, c .before .is-variable .ensures) (search tests)
 
-operator-number-requires : tie.Need-operator-number-requires
-operator-number-requires c κs = search needs
+is-operator-requires : tie.Need-is-operator-requires
+is-operator-requires c κs = search needs
 
 onward-requires-4 : tie.Need-onward-requires-4
 onward-requires-4 c κs = search needs
 
 returns-4 : tie.Need-returns-4
 unfolding wordBy
-returns-4 c = rw (c .onward4 .ensures, c .before .operator-number .ensures) (search tests)
+returns-4 c = rw (c .onward4 .ensures, c .before .is-operator .ensures) (search tests)
 
-comparison-number-requires : tie.Need-comparison-number-requires
-comparison-number-requires c κs = search needs
+is-comparison-requires : tie.Need-is-comparison-requires
+is-comparison-requires c κs = search needs
 
 onward-requires-5 : tie.Need-onward-requires-5
 onward-requires-5 c κs = search needs
 
 returns-5 : tie.Need-returns-5
 unfolding wordBy
-returns-5 c = rw (c .onward5 .ensures, c .before .comparison-number .ensures) (search tests)
+returns-5 c = rw (c .onward5 .ensures, c .before .is-comparison .ensures) (search tests)
 
 onward-requires-6 : tie.Need-onward-requires-6
 onward-requires-6 c κs = search needs
@@ -76,10 +76,10 @@ word-spec =
     is-variable-requires
     onward-requires-3
     returns-3
-    operator-number-requires
+    is-operator-requires
     onward-requires-4
     returns-4
-    comparison-number-requires
+    is-comparison-requires
     onward-requires-5
     returns-5
     onward-requires-6
