@@ -3,10 +3,10 @@
 use mathlib.Core.Bool.{Bool, true, false, cond, _&&_, _||_, not}
 use mathlib.Core.List.{List, [], _∷_, _++_, map}
 use mathlib.Core.Option.{Option, none, some}
-use Prim.Native.Nat.{ℕ, zero, suc, _+_, _-_}
+use Prim.Native.Nat.{ℕ, zero, suc, _+_}
 use lib.Dec.{eqb, leb, ltb}
 use lib.IntN.{ℤ}
-use lib.ListN.{length, take, getD}
+use lib.ListN.{length, getD}
 use Rattle.numbers.specs.Tests.{eqList, any, lowest}
 use Rattle.program.specs.Names.{Name, reserved, paperVariable}
 use Rattle.program.specs.Variables.{inRange, literals, readOnly, mostCells, mostLabels, mostVariables}
@@ -136,27 +136,36 @@ faults text before l =
     longLine l ∷ badForm l ∷ bigLiteral l ∷ reservedName l
     ∷ repeated before (heard l) ∷ tooMany before (heard l) ∷ undeclared text (heard l) ∷ readOnlyWritten (heard l) ∷ []
 
--- What the lines of a text say.
+-- These rows for one line after the other, behind lines that say what `before` says.
+unfoldable pub faultsFrom : List Line → List Line → List (List ℕ) → List (List Bool)
+faultsFrom text before [] = []
+faultsFrom text before (l ∷ ls) = faults text before l ∷ faultsFrom text (before ++ (heard l ∷ [])) ls
+
+-- What the lines of a text say; the rows 2 to 9 for each line of a text.
 unfoldable pub said : List ℕ → List Line
 said text = map heard (lines text)
 
--- Refusals 2 to 9: whether line l of the text, from 1, has fault n.
-unfoldable pub hasFault : ℕ → ℕ → List ℕ → Bool
-hasFault n l text = leb 2 n && (leb 1 l && (leb l (length (lines text)) && getD (faults (said text) (take (l - 1) (said text)) (getD (lines text) (l - 1) [])) (n - 2) false))
+unfoldable pub textFaults : List ℕ → List (List Bool)
+textFaults text = faultsFrom (said text) [] (lines text)
+
+-- Refusals 2 to 9: the rows of line l, from 1; a line that the text does not have has none.
+unfoldable pub faultsOf : List ℕ → ℕ → List Bool
+faultsOf text zero = []
+faultsOf text (suc k) = getD (textFaults text) k []
 
 abbrev pub fault : ℕ → ℕ → Fault
 fault number line = record { number = number; line = line }
 
--- Refusals 20: the first faulty line with its lowest number, from the line with this number on.
-unfoldable pub faultFrom : List Line → ℕ → List Line → List (List ℕ) → Fault
-faultFrom text line before [] = fault 0 0
-faultFrom text line before (l ∷ ls) =
-    let n = lowest 2 (faults text before l) in
-    let more = faultFrom text (suc line) (before ++ (heard l ∷ [])) ls in
-    cond (eqb n 0) more (fault n line)
+-- Refusals 20: the first line with a fault and its lowest number, where the first of these lines has the number `line`; 0 and 0 where there is none.
+unfoldable pub firstFrom : ℕ → List (List Bool) → Fault
+firstFrom line [] = fault 0 0
+firstFrom line (rows ∷ more) =
+    let n = lowest 2 rows in
+    let later = firstFrom (suc line) more in
+    cond (eqb n 0) later (fault n line)
 
 unfoldable pub firstFault : List ℕ → Fault
-firstFault text = faultFrom (said text) 1 [] (lines text)
+firstFault text = firstFrom 1 (textFaults text)
 
 -- Text 9, Image 9: the place of a label is the number of cell lines before the line that declares it.
 unfoldable pub placeOf : List Line → Name → ℕ
