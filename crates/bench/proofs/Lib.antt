@@ -7,3 +7,4 @@ pub mod Decided
 pub mod Impostors
 pub mod Promised
 pub mod States
+pub mod Later

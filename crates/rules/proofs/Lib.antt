@@ -5,3 +5,5 @@ pub mod Events
 pub mod Turn
 pub mod Run
 pub mod Never
+pub mod Later
+pub mod Scripts

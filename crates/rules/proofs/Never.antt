@@ -1,21 +1,20 @@
 -- What never happens: the sentences of document 01 that say nothing else, no, only or at most.
 -- Assumes nothing.
 use mathlib.Core.Path.{_≡_, refl, sym, ap, ap₂, _∙_, subst}
-use mathlib.Core.Bool.{Bool, true, false, cond, _&&_, not}
-use mathlib.Core.List.{List, [], _∷_, _++_}
+use mathlib.Core.Bool.{Bool, true, false, _&&_, not}
+use mathlib.Core.List.{List}
 use mathlib.Core.Logic.{_⊎_, inl, inr, ⊎-elim}
 use Prim.Native.Nat.{ℕ, zero, suc, _+_, _*_, _≤_, _<_}
 use native.Mathlib.Omega.{arith}
 use borrow.Author.Tests.{lt-leb, le-ltb, ne-eqb}
-use lib.Dec.{T, eqb, leb, ltb, leb→le}
+use lib.Dec.{T, eqb, leb, ltb}
 use lib.IntN.{ℤ, pos, _+ℤ_, _-ℤ_}
 use lib.ListN.{length, set, length-set, length-append}
 use Rattle.numbers.specs.Bytes.{bytes}
-use Rattle.numbers.specs.Tests.{all, eqZ}
+use Rattle.numbers.specs.Tests.{eqZ}
 use Rattle.program.specs.Variables.{inRange, literals, rangeOf, readOnly, allInputs}
 use Rattle.program.specs.Cells.{noTarget}
 use Rattle.program.specs.Statements.{Value, Statement, SetWith, IC, DC, MA, MR}
-use Rattle.program.proofs.Keys.{both}
 use Rattle.effects.specs.declared.Effect.{Effect}
 use Rattle.effects.specs.declared.Effect.the-variants.{Fails, Stores, Passes, Goes, Calls, Returns, Ends, Stays, Holds, Arms, Moves, Slews, Prints}
 use Rattle.effects.specs.Effects.{read, storing, storingResult, operate, storingWith, moving, value, effect}
@@ -27,7 +26,7 @@ use Rattle.machine.specs.declared.Turned.{Turned}
 use Rattle.machine.specs.declared.Event.{Event}
 use Rattle.machine.specs.Turn.{recorded, stored, inMotion, movingBit, slew, called, returned, held, flagged, failed, turn}
 use Rattle.machine.specs.Events.{input, arrivedBy, happens, goodEvent, recordBytes}
-use Rattle.machine.specs.Run.{Course, Reached, reach, runFrom, ended, after}
+use Rattle.machine.specs.Run.{Course, reach, runFrom, ended, after}
 use Rattle.rules.specs.Rules.{Ruled}
 use Rattle.rules.specs.Good.{Good, isHold}
 use Rattle.rules.proofs.Values.{chosen, read-same, read-other, mayHold, if-same}
@@ -130,38 +129,6 @@ run-bounded act cells (suc left) t es m =
     (λ s. bounded-turn t left (recordBytes t (now .wrote)) (ended 2 (suc t) (now .machine)) (record-length t (now .wrote)) (bounded-end 2 (suc t) left (now .machine)))
     (λ s. bounded-turn t left (recordBytes t (now .wrote)) (runFrom act cells left (suc t) (reach t es m .left) (now .machine)) (record-length t (now .wrote))
     (run-bounded act cells left (suc t) (reach t es m .left) (now .machine))))
-
--- Events 3: events after the turns of the run are not used.
-cond-map : {A B : Type 0} (f : A → B) (t : Bool) {x y : A} {u v : B} → u ≡ f x → v ≡ f y → cond t u v ≡ f (cond t x y)
-cond-map f true p q = p
-cond-map f false p q = q
-
-abbrev before : List Event → Reached → Reached
-before later r = record { machine = r .machine; left = r .left ++ later }
-
-module _ (n : ℕ) (later : List Event) (late : T (all (λ (e : Event). leb n (e .turn)) later)) where
-  none-reached : (t : ℕ) (m : Machine) (es : List Event) → T (all (λ (e : Event). leb n (e .turn)) es) → t < n → reach t es m ≡ record { machine = m; left = es }
-  unfolding reach all
-  none-reached t m [] l h = refl
-  none-reached t m (e ∷ es) l h =
-      let k = leb→le n (e .turn) (both (leb n (e .turn)) (all (λ (e : Event). leb n (e .turn)) es) l .0) in
-      rw (ne-eqb (e .turn) t (λ q. omega arith))
-
-  reach-later : (t : ℕ) (es : List Event) (m : Machine) → t < n → reach t (es ++ later) m ≡ before later (reach t es m)
-  unfolding reach
-  reach-later t [] m h = none-reached t m later late h
-  reach-later t (e ∷ es) m h = cond-map (before later) (eqb (e .turn) t) (reach-later t es (happens e m) h) refl
-
-  run-later : (act : Machine → Effect) (cells left t : ℕ) (es : List Event) (m : Machine) → t + left ≤ n
-      → runFrom act cells left t (es ++ later) m ≡ runFrom act cells left t es m
-  unfolding runFrom
-  run-later act cells zero t es m h = refl
-  run-later act cells (suc left) t es m h =
-      rw (reach-later t es m (omega arith), run-later act cells left (suc t) (reach t es m .left) (turn cells (act (reach t es m .machine)) (reach t es m .machine) .machine) (omega arith))
-
-pub later-unused : (act : Machine → Effect) (cells left t : ℕ) (es later : List Event) (m : Machine) → T (all (λ (e : Event). leb (t + left) (e .turn)) later)
-    → runFrom act cells left t (es ++ later) m ≡ runFrom act cells left t es m
-later-unused act cells left t es later m late = run-later (t + left) later late act cells left t es m (omega arith)
 
 -- Turn 11: nothing but a store to ER clears EF (15); and the store is of 0, the only value that ER takes.
 store-clears : (vars : List ℤ) (v : ℕ) (z : ℤ) → T (not (readOnly v)) → T (mayHold vars v z)
