@@ -4,6 +4,8 @@ pub mod Start
 pub mod Events
 pub mod Turn
 pub mod Run
+pub mod Errors
+pub mod Calls
 pub mod Never
 pub mod Later
 pub mod Scripts

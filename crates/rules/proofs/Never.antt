@@ -4,16 +4,15 @@ use mathlib.Core.Path.{_≡_, refl, sym, ap, ap₂, _∙_, subst}
 use mathlib.Core.Bool.{Bool, true, false, _&&_, not}
 use mathlib.Core.List.{List}
 use mathlib.Core.Logic.{_⊎_, inl, inr, ⊎-elim}
-use Prim.Native.Nat.{ℕ, zero, suc, _+_, _*_, _≤_, _<_}
+use Prim.Native.Nat.{ℕ, zero, suc, _+_, _*_, _≤_}
 use native.Mathlib.Omega.{arith}
-use borrow.Author.Tests.{lt-leb, le-ltb, ne-eqb}
+use borrow.Author.Tests.{ne-eqb}
 use lib.Dec.{T, eqb, leb, ltb}
 use lib.IntN.{ℤ, pos, _+ℤ_, _-ℤ_}
 use lib.ListN.{length, set, length-set, length-append}
 use Rattle.numbers.specs.Bytes.{bytes}
 use Rattle.numbers.specs.Tests.{eqZ}
 use Rattle.program.specs.Variables.{inRange, literals, rangeOf, readOnly, allInputs}
-use Rattle.program.specs.Cells.{noTarget}
 use Rattle.program.specs.Statements.{Value, Statement, SetWith, IC, DC, MA, MR}
 use Rattle.effects.specs.declared.Effect.{Effect}
 use Rattle.effects.specs.declared.Effect.the-variants.{Fails, Stores, Passes, Goes, Calls, Returns, Ends, Stays, Holds, Arms, Moves, Slews, Prints}
@@ -22,75 +21,16 @@ use Rattle.machine.specs.declared.Machine.{Machine}
 use Rattle.machine.specs.declared.Motion.{Motion}
 use Rattle.machine.specs.declared.Motion.the-variants.{Still, To, Slewing}
 use Rattle.machine.specs.declared.Record.{Record}
-use Rattle.machine.specs.declared.Turned.{Turned}
 use Rattle.machine.specs.declared.Event.{Event}
-use Rattle.machine.specs.Turn.{recorded, stored, inMotion, movingBit, slew, called, returned, held, flagged, failed, turn}
+use Rattle.machine.specs.Turn.{stored, inMotion, movingBit, slew, called, returned, held, turn}
 use Rattle.machine.specs.Events.{input, arrivedBy, happens, goodEvent, recordBytes}
 use Rattle.machine.specs.Run.{Course, reach, runFrom, ended, after}
 use Rattle.rules.specs.Rules.{Ruled}
 use Rattle.rules.specs.Good.{Good, isHold}
 use Rattle.rules.proofs.Values.{chosen, read-same, read-other, mayHold, if-same}
 use Rattle.rules.proofs.Events.{Kinds, an-input, arrived, a-position, kinds-of}
+use Rattle.rules.proofs.Errors.{ef-in-error}
 use Rattle.rules.proofs.Turn.{Sound, sound-effect, zero-only}
-
--- Turn 23: a statement in error changes ER and EF (10 and 15), and no other variable, no motion, no hold; the error is recorded.
-pub record InError (error : ℕ) (m : Machine) (t : Turned) : Type 0 where
-  pub variables : t .machine .variables ≡ set (set (m .variables) 10 (pos error)) 15 (pos 1)
-  pub motion : t .machine .motion ≡ m .motion
-  pub hold : t .machine .hold ≡ m .hold
-  pub wrote : t .wrote ≡ recorded 6 0 (pos error)
-
-pub in-error : (cells error : ℕ) (m : Machine) → InError error m (turn cells (Fails error) m)
-unfolding turn failed flagged called
-in-error cells error m =
-    chosen (InError error m) (eqb (m .handler) noTarget)
-    (λ k. record { variables = refl; motion = refl; hold = refl; wrote = refl })
-    (λ k. chosen (InError error m) (ltb (m .kept) 8)
-    (λ l. record { variables = refl; motion = refl; hold = refl; wrote = refl })
-    (λ l. record { variables = refl; motion = refl; hold = refl; wrote = refl }))
-
--- The same, variable by variable.
-pub others-in-error : (cells error : ℕ) (m : Machine) (v : ℕ) → (v ≡ 10 → ⊥) → (v ≡ 15 → ⊥)
-    → read (turn cells (Fails error) m .machine .variables) v ≡ read (m .variables) v
-others-in-error cells error m v n o =
-    ap (λ (x : List ℤ). read x v) (in-error cells error m .variables)
-    ∙ read-other (set (m .variables) 10 (pos error)) 15 v (pos 1) o
-    ∙ read-other (m .variables) 10 v (pos error) n
-
-pub er-in-error : (cells error : ℕ) (m : Machine) → length (m .variables) ≡ 64 → read (turn cells (Fails error) m .machine .variables) 10 ≡ pos error
-er-in-error cells error m l =
-    ap (λ (x : List ℤ). read x 10) (in-error cells error m .variables)
-    ∙ read-other (set (m .variables) 10 (pos error)) 15 10 (pos 1) (λ e. omega arith)
-    ∙ read-same (m .variables) 10 (pos error) (omega arith)
-
-pub ef-in-error : (cells error : ℕ) (m : Machine) → length (m .variables) ≡ 64 → read (turn cells (Fails error) m .machine .variables) 15 ≡ pos 1
-ef-in-error cells error m l =
-    ap (λ (x : List ℤ). read x 15) (in-error cells error m .variables)
-    ∙ read-same (set (m .variables) 10 (pos error)) 15 (pos 1) (omega (arith, length-set (m .variables) 10 (pos error)))
-
--- Turn 25: with a handler and eight places kept an error stops the run; next cell, places and handler are as before.
-pub stopped : (cells error : ℕ) (m : Machine) → (m .handler ≡ noTarget → ⊥) → 8 ≤ m .kept
-    → turn cells (Fails error) m ≡ record { machine = flagged error m; wrote = recorded 6 0 (pos error); stops = true }
-unfolding turn failed
-stopped cells error m n k = rw (ne-eqb (m .handler) noTarget n, le-ltb (m .kept) 8 k)
-
-pub record Unmoved (m after : Machine) : Type 0 where
-  pub next : after .next ≡ m .next
-  pub places : after .places ≡ m .places
-  pub kept : after .kept ≡ m .kept
-  pub handler : after .handler ≡ m .handler
-
-pub unmoved : (error : ℕ) (m : Machine) → Unmoved m (flagged error m)
-unfolding flagged
-unmoved error m = record { next = refl; places = refl; kept = refl; handler = refl }
-
--- Turn 25: the reason is then 2, whatever is left of the budget.
-pub stopped-run : (act : Machine → Effect) (cells left t : ℕ) (es : List Event) (m : Machine) (error : ℕ)
-    → m .next < cells → act (reach t es m .machine) ≡ Fails error → (reach t es m .machine .handler ≡ noTarget → ⊥) → 8 ≤ reach t es m .machine .kept
-    → runFrom act cells (suc left) t es m ≡ after (recordBytes t (recorded 6 0 (pos error))) (ended 2 (suc t) (flagged error (reach t es m .machine)))
-unfolding runFrom
-stopped-run act cells left t es m error here a n k =
-    rw (lt-leb cells (m .next) here, a, stopped cells error (reach t es m .machine) n k)
 
 -- Events 6: a turn records 12 bytes or none.
 pub record-length : (t : ℕ) (r : Record) → (length (recordBytes t r) ≡ 0) ⊎ (length (recordBytes t r) ≡ 12)

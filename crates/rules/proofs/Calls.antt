@@ -1,0 +1,78 @@
+-- A turn of a CL: its condition does not hold, it calls its label, or it is in error and does not.
+-- Assumes nothing.
+use mathlib.Core.Path.{_≡_, refl, sym, _∙_}
+use mathlib.Core.Bool.{Bool, true, false, cond}
+use Prim.Native.Nat.{ℕ, _+_, _≤_, _<_}
+use native.Mathlib.Omega.{arith}
+use borrow.Author.Tests.{lt-ltb, le-ltb, ltb-false}
+use lib.Dec.{ltb}
+use lib.ListN.{set}
+use Rattle.program.specs.Cells.{noTarget}
+use Rattle.program.specs.Statements.{Condition, CL}
+use Rattle.effects.specs.declared.Effect.{Effect}
+use Rattle.effects.specs.declared.Effect.the-variants.{Fails, Calls}
+use Rattle.effects.specs.Effects.{holds, calling, callingIf, effect}
+use Rattle.machine.specs.declared.Machine.{Machine}
+use Rattle.machine.specs.declared.Turned.{Turned}
+use Rattle.machine.specs.Turn.{keep, called, turn}
+use Rattle.rules.proofs.Values.{if-same}
+use Rattle.rules.proofs.Errors.{Leaves, as-is, InError, in-error}
+
+-- Turn 23, Wrong 3: a turn in error 104 that does not go to this label. With no handler the following cell is next, with one the same
+-- cell, and the run stops; places and handler are as before. So the label's cell is next only where it is one of these two.
+pub record NoJump (label : ℕ) (m : Machine) (t : Turned) : Type 0 where
+  pub error : InError 104 m t
+  pub unarmed : m .handler ≡ noTarget → Leaves (m .next + 1) (m .places) (m .kept) (m .handler) false t
+  pub armed : (m .handler ≡ noTarget → ⊥) → Leaves (m .next) (m .places) (m .kept) (m .handler) true t
+  pub not-there : (label ≡ m .next + 1 → ⊥) → (label ≡ m .next → ⊥) → t .machine .next ≡ label → ⊥
+
+module _ {R : Type 0} (place number : R → ℕ) (m : Machine) (n : R) (c : Condition R) where
+  abbrev met : Bool
+  met = holds place number (m .variables) (m .kept) (m .hold) c
+
+  abbrev does : Effect
+  does = effect place number (m .variables) (m .kept) (m .hold) (CL n c)
+
+  -- Turn 12, Turn 21: a CL is in error exactly where its condition holds and eight places are kept, and the error is 104.
+  pub call-fails : met ≡ true → 8 ≤ m .kept → does ≡ Fails 104
+  unfolding effect callingIf calling
+  call-fails t k = rw (t, le-ltb (m .kept) 8 k)
+
+  pub call-failed : (error : ℕ) → does ≡ Fails error → (error ≡ 104) × (met ≡ true) × (8 ≤ m .kept)
+  unfolding effect callingIf calling
+  call-failed error e = by-condition met refl e
+    where
+      by-places : (t : Bool) → ltb (m .kept) 8 ≡ t → cond t (Calls (place n)) (Fails 104) ≡ Fails error → (error ≡ 104) × (8 ≤ m .kept)
+      by-places true k e = let z : _≡_ {A = ℕ} 0 1 = cc in absurd (omega arith)
+      by-places false k e = (cc, ltb-false (m .kept) 8 k)
+
+      by-condition : (t : Bool) → met ≡ t → callingIf place number (m .variables) (m .kept) (m .hold) n t ≡ Fails error → (error ≡ 104) × (met ≡ true) × (8 ≤ m .kept)
+      by-condition true h e = let p = by-places (ltb (m .kept) 8) refl e in (p .0, h, p .1)
+      by-condition false h e = let z : _≡_ {A = ℕ} 0 1 = cc in absurd (omega arith)
+
+  module _ (cells : ℕ) where
+    -- Turn 23, Wrong 3: a CL in error does not jump to its label.
+    pub call-in-error : does ≡ Fails 104 → NoJump (place n) m (turn cells does m)
+    call-in-error e =
+        let f = in-error cells 104 m in
+        let k = call-failed 104 e .2 in
+        rw e
+        (record {
+          error = f;
+          unarmed = f .unarmed;
+          armed = λ h. f .full h k;
+          not-there =
+              λ a b l. if-same (m .handler) noTarget
+              (λ h. a (sym l ∙ f .unarmed h .next-cell))
+              (λ h. b (sym l ∙ f .full h k .next-cell));
+        })
+
+    -- Turn 12, Turn 13: where its condition holds and a place is free, it goes to its label and keeps the following cell.
+    pub call-made : met ≡ true → m .kept < 8 → Leaves (place n) (set (m .places) (m .kept) (m .next + 1)) (m .kept + 1) (m .handler) false (turn cells does m)
+    unfolding effect callingIf calling turn called keep
+    call-made t k = rw (t, lt-ltb (m .kept) 8 k) (as-is _)
+
+    -- Turn 12: where its condition does not hold, the following cell is next, and nothing is kept.
+    pub call-passed : met ≡ false → Leaves (m .next + 1) (m .places) (m .kept) (m .handler) false (turn cells does m)
+    unfolding effect callingIf turn
+    call-passed t = rw t (as-is _)

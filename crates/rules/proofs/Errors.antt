@@ -1,0 +1,108 @@
+-- A turn of a statement in error: what it changes, and the three ways on from it.
+-- Assumes nothing.
+use mathlib.Core.Path.{_≡_, refl, ap, _∙_}
+use mathlib.Core.Bool.{Bool, true, false}
+use mathlib.Core.List.{List}
+use Prim.Native.Nat.{ℕ, suc, _+_, _≤_, _<_}
+use native.Mathlib.Omega.{arith}
+use borrow.Author.Tests.{lt-leb, lt-ltb, le-ltb, eq-eqb, ne-eqb}
+use lib.Dec.{eqb, ltb}
+use lib.IntN.{ℤ, pos}
+use lib.ListN.{length, set, length-set}
+use Rattle.program.specs.Cells.{noTarget}
+use Rattle.effects.specs.declared.Effect.{Effect}
+use Rattle.effects.specs.declared.Effect.the-variants.{Fails}
+use Rattle.effects.specs.Effects.{read}
+use Rattle.machine.specs.declared.Machine.{Machine}
+use Rattle.machine.specs.declared.Turned.{Turned}
+use Rattle.machine.specs.declared.Event.{Event}
+use Rattle.machine.specs.Turn.{turned, onward, withHandler, recorded, keep, called, flagged, failed, turn}
+use Rattle.machine.specs.Events.{recordBytes}
+use Rattle.machine.specs.Run.{reach, runFrom, ended, after}
+use Rattle.rules.proofs.Values.{chosen, read-same, read-other}
+
+-- A turn leaves this next cell, these places, so many of them kept, this handler; it stops the run or not.
+pub record Leaves (next : ℕ) (places : List ℕ) (kept handler : ℕ) (stops : Bool) (t : Turned) : Type 0 where
+  pub next-cell : t .machine .next ≡ next
+  pub all-places : t .machine .places ≡ places
+  pub kept-places : t .machine .kept ≡ kept
+  pub handler-cell : t .machine .handler ≡ handler
+  pub stopping : t .stops ≡ stops
+
+-- Turn 23 to 25: the turn of a statement in error, and the three ways on from it.
+pub record InError (error : ℕ) (m : Machine) (t : Turned) : Type 0 where
+  -- Turn 23: ER and EF (10 and 15) change, and no other variable, no motion, no hold; the error is recorded.
+  pub variables : t .machine .variables ≡ set (set (m .variables) 10 (pos error)) 15 (pos 1)
+  pub motion : t .machine .motion ≡ m .motion
+  pub hold : t .machine .hold ≡ m .hold
+  pub wrote : t .wrote ≡ recorded 6 0 (pos error)
+  -- Turn 24: with no handler the following cell is next; places and handler are as before.
+  pub unarmed : m .handler ≡ noTarget → Leaves (m .next + 1) (m .places) (m .kept) (m .handler) false t
+  -- Turn 25: with a handler and a place free the handler is next; the following cell is kept, and no handler is armed.
+  pub armed : (m .handler ≡ noTarget → ⊥) → m .kept < 8 → Leaves (m .handler) (set (m .places) (m .kept) (m .next + 1)) (m .kept + 1) noTarget false t
+  -- Turn 25: with a handler and eight places kept the run stops; next cell, places and handler are as before.
+  pub full : (m .handler ≡ noTarget → ⊥) → 8 ≤ m .kept → Leaves (m .next) (m .places) (m .kept) (m .handler) true t
+
+-- A turn leaves its own parts.
+pub as-is : (t : Turned) → Leaves (t .machine .next) (t .machine .places) (t .machine .kept) (t .machine .handler) (t .stops) t
+as-is t = record { next-cell = refl; all-places = refl; kept-places = refl; handler-cell = refl; stopping = refl }
+
+-- A turn in error that stops the run; what holds of each of the three ways holds of a turn in error.
+abbrev pub halted : ℕ → Machine → Turned
+halted error m = record { machine = flagged error m; wrote = recorded 6 0 (pos error); stops = true }
+
+each-way : (P : Turned → Type 0) (error : ℕ) (m : Machine)
+    → P (turned (onward (flagged error m)) (recorded 6 0 (pos error)))
+    → P (turned (called (m .handler) (withHandler noTarget (flagged error m))) (recorded 6 0 (pos error)))
+    → P (halted error m) → P (failed error m)
+unfolding failed
+each-way P error m a b c = chosen P (eqb (m .handler) noTarget) (λ k. a) (λ k. chosen P (ltb (m .kept) 8) (λ l. b) (λ l. c))
+
+pub in-error : (cells error : ℕ) (m : Machine) → InError error m (turn cells (Fails error) m)
+unfolding turn failed flagged called keep
+in-error cells error m =
+    record {
+      variables = each-way (λ (t : Turned). t .machine .variables ≡ set (set (m .variables) 10 (pos error)) 15 (pos 1)) error m refl refl refl;
+      motion = each-way (λ (t : Turned). t .machine .motion ≡ m .motion) error m refl refl refl;
+      hold = each-way (λ (t : Turned). t .machine .hold ≡ m .hold) error m refl refl refl;
+      wrote = each-way (λ (t : Turned). t .wrote ≡ recorded 6 0 (pos error)) error m refl refl refl;
+      unarmed = λ e. rw (eq-eqb (m .handler) noTarget e) (as-is _);
+      armed = λ n k. rw (ne-eqb (m .handler) noTarget n, lt-ltb (m .kept) 8 k) (as-is _);
+      full = λ n k. rw (ne-eqb (m .handler) noTarget n, le-ltb (m .kept) 8 k) (as-is _);
+    }
+
+-- The same, variable by variable.
+pub others-in-error : (cells error : ℕ) (m : Machine) (v : ℕ) → (v ≡ 10 → ⊥) → (v ≡ 15 → ⊥)
+    → read (turn cells (Fails error) m .machine .variables) v ≡ read (m .variables) v
+others-in-error cells error m v n o =
+    ap (λ (x : List ℤ). read x v) (in-error cells error m .variables)
+    ∙ read-other (set (m .variables) 10 (pos error)) 15 v (pos 1) o
+    ∙ read-other (m .variables) 10 v (pos error) n
+
+pub er-in-error : (cells error : ℕ) (m : Machine) → length (m .variables) ≡ 64 → read (turn cells (Fails error) m .machine .variables) 10 ≡ pos error
+er-in-error cells error m l =
+    ap (λ (x : List ℤ). read x 10) (in-error cells error m .variables)
+    ∙ read-other (set (m .variables) 10 (pos error)) 15 10 (pos 1) (λ e. omega arith)
+    ∙ read-same (m .variables) 10 (pos error) (omega arith)
+
+pub ef-in-error : (cells error : ℕ) (m : Machine) → length (m .variables) ≡ 64 → read (turn cells (Fails error) m .machine .variables) 15 ≡ pos 1
+ef-in-error cells error m l =
+    ap (λ (x : List ℤ). read x 15) (in-error cells error m .variables)
+    ∙ read-same (set (m .variables) 10 (pos error)) 15 (pos 1) (omega (arith, length-set (m .variables) 10 (pos error)))
+
+-- Turn 25: with a handler and eight places kept an error stops the run; next cell, places and handler are as before.
+pub stopped : (cells error : ℕ) (m : Machine) → (m .handler ≡ noTarget → ⊥) → 8 ≤ m .kept → turn cells (Fails error) m ≡ halted error m
+unfolding turn failed
+stopped cells error m n k = rw (ne-eqb (m .handler) noTarget n, le-ltb (m .kept) 8 k)
+
+pub unmoved : (error : ℕ) (m : Machine) → Leaves (m .next) (m .places) (m .kept) (m .handler) true (halted error m)
+unfolding flagged
+unmoved error m = as-is (halted error m)
+
+-- Turn 25: the reason is then 2, whatever is left of the budget.
+pub stopped-run : (act : Machine → Effect) (cells left t : ℕ) (es : List Event) (m : Machine) (error : ℕ)
+    → m .next < cells → act (reach t es m .machine) ≡ Fails error → (reach t es m .machine .handler ≡ noTarget → ⊥) → 8 ≤ reach t es m .machine .kept
+    → runFrom act cells (suc left) t es m ≡ after (recordBytes t (recorded 6 0 (pos error))) (ended 2 (suc t) (flagged error (reach t es m .machine)))
+unfolding runFrom
+stopped-run act cells left t es m error here a n k =
+    rw (lt-leb cells (m .next) here, a, stopped cells error (reach t es m .machine) n k)
