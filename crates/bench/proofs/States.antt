@@ -1,4 +1,5 @@
 -- Every final state of an accepted run has the rules (Turn 3 to 5); an image is at most 5,008 bytes (Image 14); a run has at most as many turns as its budget, and as many records as turns.
+-- No answer has a slew at velocity 0 (Turn 5, Turn 20).
 -- Assumes nothing.
 use mathlib.Core.Path.{_≡_, refl, sym, subst, ap, _∙_}
 use mathlib.Core.Bool.{Bool, true, false, cond, _&&_, not}
@@ -20,6 +21,8 @@ use Rattle.program.proofs.Keys.{both-of}
 use Rattle.image.specs.Layout.{cellCount, labelCount, variableCount, cellAt, labelTarget, startValue, startValues}
 use Rattle.image.specs.Check.{Use, uses, layouts, fits, goodWritten, goodTarget, badLength, imageFaults, checked}
 use Rattle.machine.specs.declared.Machine.{Machine}
+use Rattle.machine.specs.declared.Motion.{Motion}
+use Rattle.machine.specs.declared.Motion.the-variants.{Still, To, Slewing}
 use Rattle.machine.specs.Turn.{startMachine}
 use Rattle.machine.specs.Events.{badEvents, goodEvent, eventAt, eventCount, events}
 use Rattle.machine.proofs.Scripts.{good-events}
@@ -30,12 +33,15 @@ use Rattle.rules.proofs.Values.{chosen}
 use Rattle.rules.proofs.Run.{ruled-run}
 use Rattle.rules.proofs.Start.{ruled-start}
 use Rattle.rules.proofs.Never.{run-bounded}
+use Rattle.rules.proofs.Slewing.{NoZeroSlew, started-nonzero}
 use Rattle.refusals.proofs.Lowest.{any-exactly, lowest-zero}
 use Rattle.listing.proofs.Accepted.{accepted, faultless}
 use Rattle.listing.proofs.Recorded.{Recorded, recorded}
 use Rattle.listing.proofs.Cells.{from-any, fitting}
 use Rattle.listing.proofs.Kit as K
-use Rattle.bench.specs.Running.{stateOf, ranAs, refusedAs, runFaults, runRefusal, ran}
+use Rattle.bench.specs.Running.{motionNumber, motionValue, stateOf, noState, ranAs, refusedAs, runFaults, runRefusal, ran}
+use Rattle.bench.specs.Following.{linesCourse, textCourse, followed}
+use Rattle.bench.specs.declared.State.{State}
 use Rattle.bench.specs.declared.Ran.{Ran}
 use Rattle.bench.proofs.Demands.{ran-number, run-refused}
 
@@ -253,3 +259,24 @@ answer-bounded s script budget room =
     chosen (λ (a : Ran). (a .turns ≤ budget) × (a .records ≤ a .turns)) (eqb (runRefusal s script budget room) 0)
     (λ k. (omega arith, omega arith))
     (λ k. (omega arith, omega arith))
+
+-- Turn 5, Turn 20: in no answer does the axis slew, motion 2, at velocity 0: not of a run, refused or not, and not of a text's own run.
+abbrev pub NoZeroAnswer : State → Type 0
+NoZeroAnswer s = s .motion ≡ 2 → s .value ≡ pos 0 → ⊥
+
+no-zero : (x : Motion) → NoZeroSlew x → motionNumber x ≡ 2 → motionValue x ≡ pos 0 → ⊥
+unfolding motionNumber motionValue
+no-zero Still h e v = omega arith
+no-zero (To z) h e v = omega arith
+no-zero (Slewing z) h e v = h (ap Slewing v)
+
+pub answer-nonzero : (s script : List ℕ) (budget room : ℕ) → NoZeroAnswer (ran s script budget room .state)
+unfolding ran ranAs refusedAs stateOf noState imageCourse
+answer-nonzero s script budget room =
+    chosen (λ (a : Ran). NoZeroAnswer (a .state)) (eqb (runRefusal s script budget room) 0)
+    (λ k. no-zero (imageCourse s script budget .machine .motion) (started-nonzero (cellActs s) (cellCount s) budget 0 (events script) (startValues s)))
+    (λ k e v. omega arith)
+
+pub followed-nonzero : (text script : List ℕ) (budget : ℕ) → NoZeroAnswer (followed text script budget .state)
+unfolding followed ranAs stateOf textCourse linesCourse
+followed-nonzero text script budget = no-zero (textCourse text script budget .machine .motion) (started-nonzero _ _ budget 0 (events script) _)

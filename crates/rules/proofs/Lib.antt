@@ -9,3 +9,4 @@ pub mod Calls
 pub mod Never
 pub mod Later
 pub mod Scripts
+pub mod Slewing

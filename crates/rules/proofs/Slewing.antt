@@ -1,0 +1,100 @@
+-- The axis never slews at velocity 0: no turn, no event and no run makes it.
+-- Assumes nothing.
+use mathlib.Core.Path.{_≡_, refl, subst}
+use mathlib.Core.Bool.{not}
+use mathlib.Core.List.{List, [], _∷_}
+use Prim.Native.Nat.{ℕ, zero, suc}
+use native.Mathlib.Omega.{arith}
+use lib.Dec.{T, eqb, leb, ltb}
+use lib.IntN.{ℤ, pos}
+use Rattle.numbers.specs.Tests.{eqZ}
+use Rattle.effects.specs.declared.Effect.{Effect}
+use Rattle.effects.specs.declared.Effect.the-variants.{Fails, Stores, Passes, Goes, Calls, Returns, Ends, Stays, Holds, Arms, Moves, Slews, Prints}
+use Rattle.effects.specs.Effects.{read}
+use Rattle.machine.specs.declared.Machine.{Machine}
+use Rattle.machine.specs.declared.Motion.{Motion}
+use Rattle.machine.specs.declared.Motion.the-variants.{Still, To, Slewing}
+use Rattle.machine.specs.declared.Event.{Event}
+use Rattle.machine.specs.Turn.{startMachine, movingBit, inMotion, slew, called, returned, held, turn}
+use Rattle.machine.specs.Events.{arrivedBy, happens}
+use Rattle.machine.specs.Run.{Course, Reached, reach, runFrom}
+use Rattle.rules.proofs.Values.{chosen, read-other}
+use Rattle.rules.proofs.Errors.{in-error}
+
+-- A motion that is no slew at velocity 0.
+abbrev pub NoZeroSlew : Motion → Type 0
+NoZeroSlew x = x ≡ Slewing (pos 0) → ⊥
+
+still : NoZeroSlew Still
+still e = let z : _≡_ {A = ℕ} 0 1 = cc in omega arith
+
+to : (z : ℤ) → NoZeroSlew (To z)
+to z e = let z : _≡_ {A = ℕ} 0 1 = cc in omega arith
+
+-- Turn 20: no SL makes it a slew at velocity 0.
+pub slew-nonzero : (z : ℤ) → NoZeroSlew (slew z)
+unfolding slew eqZ
+slew-nonzero z =
+    chosen NoZeroSlew (eqZ z (pos 0)) (λ k. still)
+    (λ k e. let h : z ≡ pos 0 = cc in subst (λ (x : ℤ). T (not (eqZ x (pos 0)))) h k)
+
+-- Turn 20: the turn of an SL 0 leaves the axis still, and every variable but MV (14) as it was, so P too.
+pub stops-still : (cells : ℕ) (m : Machine)
+    → (turn cells (Slews (pos 0)) m .machine .motion ≡ Still) × ((v : ℕ) → (v ≡ 14 → ⊥) → read (turn cells (Slews (pos 0)) m .machine .variables) v ≡ read (m .variables) v)
+unfolding turn inMotion slew eqZ
+stops-still cells m = (refl, λ v n. read-other (m .variables) 14 v (movingBit Still) n)
+
+-- Turn 5, Turn 20: a turn makes none, whatever the effect.
+pub turn-nonzero : (cells : ℕ) (e : Effect) (m : Machine) → NoZeroSlew (m .motion) → NoZeroSlew (turn cells e m .machine .motion)
+unfolding turn inMotion called returned held
+turn-nonzero cells (Fails error) m h = rw (in-error cells error m .motion) h
+turn-nonzero cells (Stores v z) m h = h
+turn-nonzero cells Passes m h = h
+turn-nonzero cells (Goes cell) m h = h
+turn-nonzero cells (Calls cell) m h = h
+turn-nonzero cells Returns m h = h
+turn-nonzero cells Ends m h = h
+turn-nonzero cells Stays m h = h
+turn-nonzero cells (Holds turns) m h = chosen (λ (x : Machine). NoZeroSlew (x .motion)) (ltb 0 turns) (λ k. h) (λ k. h)
+turn-nonzero cells (Arms cell) m h = h
+turn-nonzero cells (Moves target kind z) m h = to target
+turn-nonzero cells (Slews z) m h = slew-nonzero z
+turn-nonzero cells (Prints v z) m h = h
+
+-- Events 2: nor does an event, good or not, nor all events of a turn.
+arrived-nonzero : (motion : Motion) (m : Machine) → NoZeroSlew (m .motion) → NoZeroSlew (arrivedBy motion m .motion)
+unfolding arrivedBy inMotion
+arrived-nonzero Still m h = h
+arrived-nonzero (To z) m h = still
+arrived-nonzero (Slewing z) m h = h
+
+pub event-nonzero : (e : Event) (m : Machine) → NoZeroSlew (m .motion) → NoZeroSlew (happens e m .motion)
+unfolding happens
+event-nonzero e m h =
+    chosen (λ (x : Machine). NoZeroSlew (x .motion)) (eqb (e .kind) 1)
+    (λ k. h)
+    (λ k. chosen (λ (x : Machine). NoZeroSlew (x .motion)) (eqb (e .kind) 2) (λ l. arrived-nonzero (m .motion) m h) (λ l. h))
+
+pub events-nonzero : (t : ℕ) (es : List Event) (m : Machine) → NoZeroSlew (m .motion) → NoZeroSlew (reach t es m .machine .motion)
+unfolding reach
+events-nonzero t [] m h = h
+events-nonzero t (e ∷ es) m h =
+    chosen (λ (r : Reached). NoZeroSlew (r .machine .motion)) (eqb (e .turn) t) (λ k. events-nonzero t es (happens e m) (event-nonzero e m h)) (λ k. h)
+
+-- Turn 5, Turn 20: nor does a run, whatever its statements, its events and its budget.
+pub run-nonzero : (act : Machine → Effect) (cells left t : ℕ) (es : List Event) (m : Machine) → NoZeroSlew (m .motion)
+    → NoZeroSlew (runFrom act cells left t es m .machine .motion)
+unfolding runFrom
+run-nonzero act cells zero t es m h = chosen (λ (c : Course). NoZeroSlew (c .machine .motion)) (leb cells (m .next)) (λ k. h) (λ k. h)
+run-nonzero act cells (suc left) t es m h =
+    let r = reach t es m in
+    let now = turn cells (act (r .machine)) (r .machine) in
+    let moved = turn-nonzero cells (act (r .machine)) (r .machine) (events-nonzero t es m h) in
+    chosen (λ (c : Course). NoZeroSlew (c .machine .motion)) (leb cells (m .next)) (λ k. h)
+    (λ k. chosen (λ (c : Course). NoZeroSlew (c .machine .motion)) (now .stops) (λ s. moved) (λ s. run-nonzero act cells left (suc t) (r .left) (now .machine) moved))
+
+-- Turn 5, Turn 20: a run from the start never ends in a slew at velocity 0.
+pub started-nonzero : (act : Machine → Effect) (cells left t : ℕ) (es : List Event) (values : List ℤ)
+    → NoZeroSlew (runFrom act cells left t es (startMachine values) .machine .motion)
+unfolding startMachine
+started-nonzero act cells left t es values = run-nonzero act cells left t es (startMachine values) still
