@@ -2,13 +2,12 @@
 -- Assumes nothing.
 use mathlib.Core.Path.{_≡_, refl, sym, subst, ap, _∙_}
 use mathlib.Core.Bool.{Bool, true, false, _&&_, _||_, not}
-use mathlib.Core.List.{List, _∷_, _++_, append-assoc}
+use mathlib.Core.List.{List, _∷_, _++_, append-assoc, flatMap}
 use Prim.Native.Nat.{ℕ, _+_, _*_, _≤_, _<_}
 use native.Mathlib.Omega.{arith}
 use borrow.Author.Tests.{leb-true, ltb-true}
 use lib.Dec.{leb, ltb, lit<}
 use lib.ListN.{length}
-use Rattle.numbers.specs.Tests.{joined}
 use Rattle.numbers.proofs.Kit.{within32}
 use Rattle.program.specs.Names.{Name}
 use Rattle.program.specs.Variables.{literals, present, readOnly}
@@ -16,13 +15,13 @@ use Rattle.program.specs.Cells.{cell, cellOf, jumpOf, operandOf, noTarget}
 use Rattle.program.specs.Statements.{Value, Literal, Variable, Condition, Always, Compare, Statement, Set, SetWith, IC, DC, BR, CL, RT, E, H, Hold, OE, Disarm, MA, MR, SL, PR}
 use Rattle.program.specs.declared.Operand.the-variants as O
 use Rattle.text.specs.Forms.{Line, Acts}
-use Rattle.text.specs.Faults.{count, makesCell, makesVariable, placeOf, numberOf}
+use Rattle.text.specs.Faults.{howMany, makesCell, makesVariable, placeOf, numberOf}
 use Rattle.image.specs.Layout.{cellBytes, cellAt}
 use Rattle.image.proofs.Back.{GoodOperand, GoodCell, cell-back}
 use Rattle.image.proofs.Accepted.{Writes, Reads, Chooses, Compares, Acceptable}
 use Rattle.translation.specs.Images.{cellPart, labelPart, variablePart, imageOf}
 use Rattle.translation.specs.Places.{lineAt}
-use Rattle.translation.proofs.Parts.{joined-length, cells-sized}
+use Rattle.translation.proofs.Parts.{parts-length, cells-sized}
 use Rattle.agreement.proofs.Parsed.{ParsedStatement}
 use Rattle.agreement.proofs.Sound.{Fine, Good, good, both-true}
 use Rattle.agreement.proofs.Places.{here, cell-is, line-at}
@@ -111,39 +110,39 @@ module _ {R : Type 0} (place number : R → ℕ) (s : List ℕ) (variables : ℕ
 
 -- What stands behind a cell, with these lines behind its own.
 abbrev pub cellRest : List Line → List Line → List ℕ
-cellRest xs rest = joined (cellPart xs) rest ++ (joined (labelPart xs) xs ++ (joined variablePart xs ++ trailer xs))
+cellRest xs rest = flatMap (cellPart xs) rest ++ (flatMap (labelPart xs) xs ++ (flatMap variablePart xs ++ trailer xs))
 
 module _ (xs : List Line) (f : Fine xs) (before rest : List Line) (s : Statement Name) (e : xs ≡ before ++ (Acts s ∷ rest)) where
   pub cell-good : GoodCell (cellOf (placeOf xs) (numberOf xs) s)
   cell-good =
-      good-cell (placeOf xs) (numberOf xs) (imageOf xs) (count makesVariable xs) (f .variables) (place-below xs f) s
+      good-cell (placeOf xs) (numberOf xs) (imageOf xs) (howMany makesVariable xs) (f .variables) (place-below xs f) s
       (acceptable xs f before s (good xs f before (Acts s) rest e))
 
-  pub cells-before : length (joined (cellPart xs) before) ≡ 16 * count makesCell before
-  cells-before = joined-length (cellPart xs) makesCell 16 before (cells-sized xs before)
+  pub cells-before : length (flatMap (cellPart xs) before) ≡ 16 * howMany makesCell before
+  cells-before = parts-length (cellPart xs) makesCell 16 before (cells-sized xs before)
 
-  pub cell-split : imageOf xs ≡ joined (cellPart xs) before ++ (cellBytes (cellOf (placeOf xs) (numberOf xs) s) ++ cellRest xs rest)
+  pub cell-split : imageOf xs ≡ flatMap (cellPart xs) before ++ (cellBytes (cellOf (placeOf xs) (numberOf xs) s) ++ cellRest xs rest)
   unfolding imageOf cellPart
   cell-split =
-      ap (λ (l : List ℕ). l ++ (joined (labelPart xs) xs ++ (joined variablePart xs ++ trailer xs))) (part-at (cellPart xs) xs before (Acts s) rest e)
+      ap (λ (l : List ℕ). l ++ (flatMap (labelPart xs) xs ++ (flatMap variablePart xs ++ trailer xs))) (part-at (cellPart xs) xs before (Acts s) rest e)
       ∙ simp append-assoc
 
-  pub cell-read : cellAt (imageOf xs) (count makesCell before) ≡ cellOf (placeOf xs) (numberOf xs) s
+  pub cell-read : cellAt (imageOf xs) (howMany makesCell before) ≡ cellOf (placeOf xs) (numberOf xs) s
   cell-read =
-      ap (λ (i : List ℕ). cellAt i (count makesCell before)) cell-split
-      ∙ cell-back (cellOf (placeOf xs) (numberOf xs) s) cell-good (joined (cellPart xs) before) (cellRest xs rest) (count makesCell before) cells-before
+      ap (λ (i : List ℕ). cellAt i (howMany makesCell before)) cell-split
+      ∙ cell-back (cellOf (placeOf xs) (numberOf xs) s) cell-good (flatMap (cellPart xs) before) (cellRest xs rest) (howMany makesCell before) cells-before
 
-  pub line-read : lineAt xs (count makesCell before) ≡ s
-  line-read = ap (λ (ys : List Line). lineAt ys (count makesCell before)) e ∙ line-at before s rest
+  pub line-read : lineAt xs (howMany makesCell before) ≡ s
+  line-read = ap (λ (ys : List Line). lineAt ys (howMany makesCell before)) e ∙ line-at before s rest
 
 -- The line that makes the cell with this number.
 pub record CellLine (xs : List Line) (k : ℕ) : Type 0 where
   pub before : List Line
   pub rest : List Line
   pub whole : xs ≡ before ++ (Acts (lineAt xs k) ∷ rest)
-  pub rank : count makesCell before ≡ k
+  pub rank : howMany makesCell before ≡ k
 
-pub cell-line : (xs : List Line) → Fine xs → (k : ℕ) → k < count makesCell xs → CellLine xs k
+pub cell-line : (xs : List Line) → Fine xs → (k : ℕ) → k < howMany makesCell xs → CellLine xs k
 cell-line xs f k h =
     let i = here makesCell xs k h in
     let c = cell-is (i .line) (i .passes) in
@@ -152,21 +151,21 @@ cell-line xs f k h =
     record { before = i .before; rest = i .rest; whole = e ∙ ap (λ (s : Statement Name). i .before ++ (Acts s ∷ i .rest)) (sym l); rank = i .rank }
 
 -- Image 3: the cell with this number is that of the statement at this place.
-pub cell-at : (xs : List Line) → Fine xs → (k : ℕ) → k < count makesCell xs → cellAt (imageOf xs) k ≡ cellOf (placeOf xs) (numberOf xs) (lineAt xs k)
+pub cell-at : (xs : List Line) → Fine xs → (k : ℕ) → k < howMany makesCell xs → cellAt (imageOf xs) k ≡ cellOf (placeOf xs) (numberOf xs) (lineAt xs k)
 cell-at xs f k h =
     let l = cell-line xs f k h in
     subst (λ (j : ℕ). cellAt (imageOf xs) j ≡ cellOf (placeOf xs) (numberOf xs) (lineAt xs k)) (l .rank)
     (cell-read xs f (l .before) (l .rest) (lineAt xs k) (l .whole))
 
 -- The statement at a place is well made, refers to what is there, and its cell fits its bytes.
-module _ (xs : List Line) (f : Fine xs) (k : ℕ) (h : k < count makesCell xs) where
+module _ (xs : List Line) (f : Fine xs) (k : ℕ) (h : k < howMany makesCell xs) where
   pub line-good : (l : CellLine xs k) → Good xs (l .before) (Acts (lineAt xs k))
   line-good l = good xs f (l .before) (Acts (lineAt xs k)) (l .rest) (l .whole)
 
   pub line-parsed : ParsedStatement (lineAt xs k)
   line-parsed = line-good (cell-line xs f k h) .parsed
 
-  pub line-acceptable : Acceptable (placeOf xs) (numberOf xs) (imageOf xs) (count makesVariable xs) (lineAt xs k)
+  pub line-acceptable : Acceptable (placeOf xs) (numberOf xs) (imageOf xs) (howMany makesVariable xs) (lineAt xs k)
   line-acceptable = let l = cell-line xs f k h in acceptable xs f (l .before) (lineAt xs k) (line-good l)
 
   pub line-cell-good : GoodCell (cellOf (placeOf xs) (numberOf xs) (lineAt xs k))

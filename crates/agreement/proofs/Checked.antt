@@ -2,16 +2,16 @@
 -- Assumes nothing.
 use mathlib.Core.Path.{_≡_, refl, sym, subst, ap, _∙_}
 use mathlib.Core.Bool.{Bool, true, false, _&&_, _||_}
-use mathlib.Core.List.{List, _∷_}
+use mathlib.Core.List.{List, _∷_, flatMap}
 use Prim.Native.Nat.{ℕ, zero, suc, _+_, _-_, _≤_, _<_}
 use native.Mathlib.Omega.{arith}
 use borrow.Author.Tests.{le-ltb, leb-true}
 use lib.Dec.{T, leb, ltb}
 use lib.ListN.{length}
-use Rattle.numbers.specs.Tests.{anyBelow, lowest, eqList, joined}
+use Rattle.numbers.specs.Tests.{anyBelow, lowest, eqList}
 use Rattle.program.proofs.Keys.{eqList-eq}
 use Rattle.text.specs.Forms.{Line, Label}
-use Rattle.text.specs.Faults.{said, count, makesCell, makesLabel, makesVariable, declares, placeOf, numberOf}
+use Rattle.text.specs.Faults.{said, howMany, makesCell, makesLabel, makesVariable, declares, placeOf, numberOf}
 use Rattle.image.specs.Layout.{imageLength, variableCount, labelTarget}
 use Rattle.image.specs.Check.{badLength, badEdition, badTrailer, badCell, badCells, recordName, badName, badTarget, badStart, badRecords, imageFaults, checked}
 use Rattle.image.proofs.Accepted.{length-made, length-accepted, edition-accepted, trailer-accepted, Acceptable, statement-accepted}
@@ -40,34 +40,34 @@ module _ (xs : List Line) (f : Fine xs) where
 
   -- Refusals 11 to 13
   pub length-good : badLength made ≡ false
-  length-good = rw (trailed xs) (length-accepted (front xs) (count makesCell xs) (count makesLabel xs) (count makesVariable xs) (front-length xs f) (f .cells) (f .labels) (f .variables))
+  length-good = rw (trailed xs) (length-accepted (front xs) (howMany makesCell xs) (howMany makesLabel xs) (howMany makesVariable xs) (front-length xs f) (f .cells) (f .labels) (f .variables))
 
   pub edition-good : badEdition made ≡ false
-  edition-good = rw (trailed xs) (edition-accepted (front xs) (count makesCell xs) (count makesLabel xs) (count makesVariable xs) (front-length xs f) (f .cells) (f .labels) (f .variables))
+  edition-good = rw (trailed xs) (edition-accepted (front xs) (howMany makesCell xs) (howMany makesLabel xs) (howMany makesVariable xs) (front-length xs f) (f .cells) (f .labels) (f .variables))
 
   pub trailer-good : badTrailer made ≡ false
-  trailer-good = rw (trailed xs) (trailer-accepted (front xs) (count makesCell xs) (count makesLabel xs) (count makesVariable xs) (front-length xs f) (f .cells) (f .labels) (f .variables))
+  trailer-good = rw (trailed xs) (trailer-accepted (front xs) (howMany makesCell xs) (howMany makesLabel xs) (howMany makesVariable xs) (front-length xs f) (f .cells) (f .labels) (f .variables))
 
   -- Refusals 14
-  cell-good-at : (k : ℕ) → k < count makesCell xs → badCell made k ≡ false
+  cell-good-at : (k : ℕ) → k < howMany makesCell xs → badCell made k ≡ false
   cell-good-at k h =
       let l = cell-line xs f k h in
       let s = lineAt xs k in
       let split = cell-split xs f (l .before) (l .rest) s (l .whole) in
       let there : Acceptable (placeOf xs) (numberOf xs) made (variableCount made) s = rw (variable-count xs f) (line-acceptable xs f k h) in
       let ok =
-      statement-accepted (placeOf xs) (numberOf xs) s (joined (cellPart xs) (l .before)) (cellRest xs (l .rest)) (count makesCell (l .before))
+      statement-accepted (placeOf xs) (numberOf xs) s (flatMap (cellPart xs) (l .before)) (cellRest xs (l .rest)) (howMany makesCell (l .before))
       (cell-good xs f (l .before) (l .rest) s (l .whole))
       (cells-before xs f (l .before) (l .rest) s (l .whole))
       (subst (λ (i : List ℕ). Acceptable (placeOf xs) (numberOf xs) i (variableCount i) s) split there) in
-      subst (λ (j : ℕ). badCell made j ≡ false) (l .rank) (subst (λ (i : List ℕ). badCell i (count makesCell (l .before)) ≡ false) (sym split) ok)
+      subst (λ (j : ℕ). badCell made j ≡ false) (l .rank) (subst (λ (i : List ℕ). badCell i (howMany makesCell (l .before)) ≡ false) (sym split) ok)
 
   pub cells-good : badCells made ≡ false
   unfolding badCells
-  cells-good = rw (cell-count xs f) (none-below (count makesCell xs) (badCell made) cell-good-at)
+  cells-good = rw (cell-count xs f) (none-below (howMany makesCell xs) (badCell made) cell-good-at)
 
   -- Refusals 15: names
-  name-good : (k : ℕ) → k < count makesLabel xs + count makesVariable xs → badName made k ≡ false
+  name-good : (k : ℕ) → k < howMany makesLabel xs + howMany makesVariable xs → badName made k ≡ false
   unfolding badName
   name-good k h =
       rw (recorded xs f k h .user)
@@ -77,7 +77,7 @@ module _ (xs : List Line) (f : Fine xs) where
       (λ t. let e = names-apart xs f j k (omega arith) h (eqList-eq (recordName made j) (recordName made k) t) in omega arith)))
 
   -- targets
-  target-of : (k : ℕ) (h : k < count makesLabel xs) → labelTarget made k ≡ count makesCell (label-line xs k h .before)
+  target-of : (k : ℕ) (h : k < howMany makesLabel xs) → labelTarget made k ≡ howMany makesCell (label-line xs k h .before)
   unfolding declares
   target-of k h =
       let l = label-line xs k h in
@@ -90,30 +90,30 @@ module _ (xs : List Line) (f : Fine xs) where
       ∙ rank-here makesCell (l .name) (l .before) (Label (l .name)) (l .rest) once it
 
   -- they never fall
-  pub targets-rise : (j k : ℕ) → j < k → k < count makesLabel xs → labelTarget made j ≤ labelTarget made k
+  pub targets-rise : (j k : ℕ) → j < k → k < howMany makesLabel xs → labelTarget made j ≤ labelTarget made k
   targets-rise j k l h =
-      let i : j < count makesLabel xs = omega arith in
+      let i : j < howMany makesLabel xs = omega arith in
       let a = label-line xs j i in
       let b = label-line xs k h in
-      let less : count makesLabel (a .before) < count makesLabel (b .before) = rw (a .rank, b .rank) l in
+      let less : howMany makesLabel (a .before) < howMany makesLabel (b .before) = rw (a .rank, b .rank) l in
       rw (target-of j i, target-of k h)
       (fronts makesLabel makesCell (a .before) (Label (a .name) ∷ a .rest) (b .before) (Label (b .name) ∷ b .rest) (sym (a .whole) ∙ b .whole) less)
 
   -- and are at most the cell count
-  pub targets-most : (k : ℕ) → k < count makesLabel xs → labelTarget made k ≤ count makesCell xs
+  pub targets-most : (k : ℕ) → k < howMany makesLabel xs → labelTarget made k ≤ howMany makesCell xs
   targets-most k h = rw (label-record xs f k h .1) (place-most xs (label-line xs k h .name))
 
-  target-good : (k : ℕ) → k < count makesLabel xs → badTarget made k ≡ false
+  target-good : (k : ℕ) → k < howMany makesLabel xs → badTarget made k ≡ false
   unfolding badTarget
   target-good k h =
-      rw (cell-count xs f, le-ltb (count makesCell xs) (labelTarget made k) (targets-most k h)) (go (leb 1 k) refl)
+      rw (cell-count xs f, le-ltb (howMany makesCell xs) (labelTarget made k) (targets-most k h)) (go (leb 1 k) refl)
     where
       go : (b : Bool) → leb 1 k ≡ b → ((b && ltb (labelTarget made k) (labelTarget made (k - 1))) || false) ≡ false
       go true e = let l = leb-true 1 k e in rw (le-ltb (labelTarget made k) (labelTarget made (k - 1)) (targets-rise (k - 1) k (omega arith) h))
       go false e = refl
 
   -- start values
-  start-good : (k : ℕ) → k < count makesVariable xs → badStart made k ≡ false
+  start-good : (k : ℕ) → k < howMany makesVariable xs → badStart made k ≡ false
   unfolding badStart
   start-good k h =
       let l = variable-line xs k h in
@@ -128,9 +128,9 @@ module _ (xs : List Line) (f : Fine xs) where
       rw (
         label-count xs f,
         variable-count xs f,
-        none-below (count makesLabel xs + count makesVariable xs) (badName made) name-good,
-        none-below (count makesLabel xs) (badTarget made) target-good,
-        none-below (count makesVariable xs) (badStart made) start-good,
+        none-below (howMany makesLabel xs + howMany makesVariable xs) (badName made) name-good,
+        none-below (howMany makesLabel xs) (badTarget made) target-good,
+        none-below (howMany makesVariable xs) (badStart made) start-good,
       )
 
   pub image-good : checked made ≡ 0
@@ -152,4 +152,4 @@ image-most text ok =
     let l = f .labels in
     let v = f .variables in
     rw (trailed xs)
-    (rw (length-made (front xs) (count makesCell xs) (count makesLabel xs) (count makesVariable xs) (front-length xs f) c l v) (omega arith))
+    (rw (length-made (front xs) (howMany makesCell xs) (howMany makesLabel xs) (howMany makesVariable xs) (front-length xs f) c l v) (omega arith))

@@ -6,7 +6,7 @@ use mathlib.Core.List.{List}
 use Prim.Native.Nat.{ℕ, _<_}
 use Rattle.program.specs.Cells.{same, statementOf}
 use Rattle.text.specs.Forms.{Line}
-use Rattle.text.specs.Faults.{said, count, makesCell, placeOf, numberOf}
+use Rattle.text.specs.Faults.{said, howMany, makesCell, placeOf, numberOf}
 use Rattle.image.specs.Layout.{cellCount, cellAt, startValues}
 use Rattle.effects.specs.declared.Effect.{Effect}
 use Rattle.effects.specs.Effects.{effect}
@@ -33,28 +33,28 @@ byLine xs m = effect (placeOf xs) (numberOf xs) (m .variables) (m .kept) (m .hol
 
 module _ (xs : List Line) (f : Fine xs) where
   -- a cell does what its line does
-  pub same-act : (m : Machine) → m .next < count makesCell xs → byCell (imageOf xs) m ≡ byLine xs m
+  pub same-act : (m : Machine) → m .next < howMany makesCell xs → byCell (imageOf xs) m ≡ byLine xs m
   same-act m h =
       ap (λ c. effect same same (m .variables) (m .kept) (m .hold) (statementOf c)) (cell-at xs f (m .next) h)
       ∙ effect-cell (placeOf xs) (numberOf xs) (m .variables) (m .kept) (m .hold) (lineAt xs (m .next))
       (selected (lineAt xs (m .next)) (line-parsed xs f (m .next) h))
 
   pub same-run : (left t : ℕ) (es : List Event) (m : Machine)
-      → runFrom (byCell (imageOf xs)) (cellCount (imageOf xs)) left t es m ≡ runFrom (byLine xs) (count makesCell xs) left t es m
+      → runFrom (byCell (imageOf xs)) (cellCount (imageOf xs)) left t es m ≡ runFrom (byLine xs) (howMany makesCell xs) left t es m
   same-run left t es m =
       ap (λ (n : ℕ). runFrom (byCell (imageOf xs)) n left t es m) (cell-count xs f)
-      ∙ run-same (byCell (imageOf xs)) (byLine xs) (count makesCell xs) same-act left t es m
+      ∙ run-same (byCell (imageOf xs)) (byLine xs) (howMany makesCell xs) same-act left t es m
 
   pub same-places : (left t : ℕ) (es : List Event) (m : Machine)
-      → visitsFrom (byCell (imageOf xs)) (cellCount (imageOf xs)) left t es m ≡ visitsFrom (byLine xs) (count makesCell xs) left t es m
+      → visitsFrom (byCell (imageOf xs)) (cellCount (imageOf xs)) left t es m ≡ visitsFrom (byLine xs) (howMany makesCell xs) left t es m
   same-places left t es m =
       ap (λ (n : ℕ). visitsFrom (byCell (imageOf xs)) n left t es m) (cell-count xs f)
-      ∙ visit-same (byCell (imageOf xs)) (byLine xs) (count makesCell xs) same-act left t es m
+      ∙ visit-same (byCell (imageOf xs)) (byLine xs) (howMany makesCell xs) same-act left t es m
 
 -- An accepted text and its image: one run from any machine, one machine to start from, and so one course.
 module _ (text : List ℕ) (ok : accepted text ≡ true) where
   pub same-from : (left t : ℕ) (es : List Event) (m : Machine)
-      → runFrom (byCell (image text)) (cellCount (image text)) left t es m ≡ runFrom (byLine (said text)) (count makesCell (said text)) left t es m
+      → runFrom (byCell (image text)) (cellCount (image text)) left t es m ≡ runFrom (byLine (said text)) (howMany makesCell (said text)) left t es m
   unfolding image
   same-from left t es m = same-run (said text) (fine text ok) left t es m
 
@@ -64,16 +64,16 @@ module _ (text : List ℕ) (ok : accepted text ≡ true) where
 
   pub same-course : (budget : ℕ) (es : List Event)
       → runFrom (byCell (image text)) (cellCount (image text)) budget 0 es (startMachine (startValues (image text)))
-      ≡ runFrom (byLine (said text)) (count makesCell (said text)) budget 0 es (startMachine (starts (said text)))
+      ≡ runFrom (byLine (said text)) (howMany makesCell (said text)) budget 0 es (startMachine (starts (said text)))
   same-course budget es =
       same-from budget 0 es (startMachine (startValues (image text)))
-      ∙ ap (runFrom (byLine (said text)) (count makesCell (said text)) budget 0 es) same-start
+      ∙ ap (runFrom (byLine (said text)) (howMany makesCell (said text)) budget 0 es) same-start
 
   -- the turns of both go by the same places
   pub same-visits : (budget : ℕ) (es : List Event)
       → visitsFrom (byCell (image text)) (cellCount (image text)) budget 0 es (startMachine (startValues (image text)))
-      ≡ visitsFrom (byLine (said text)) (count makesCell (said text)) budget 0 es (startMachine (starts (said text)))
+      ≡ visitsFrom (byLine (said text)) (howMany makesCell (said text)) budget 0 es (startMachine (starts (said text)))
   unfolding image
   same-visits budget es =
       same-places (said text) (fine text ok) budget 0 es (startMachine (startValues (image text)))
-      ∙ ap (visitsFrom (byLine (said text)) (count makesCell (said text)) budget 0 es) same-start
+      ∙ ap (visitsFrom (byLine (said text)) (howMany makesCell (said text)) budget 0 es) same-start

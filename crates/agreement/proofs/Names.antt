@@ -8,11 +8,11 @@ use native.Mathlib.Omega.{arith}
 use borrow.Author.Tests.{lt-ltb, le-ltb, ltb-true, ltb-false}
 use lib.Dec.{T, ltb}
 use lib.IntN.{ℤ}
-use Rattle.numbers.specs.Tests.{any, eqList}
+use Rattle.numbers.specs.Tests.{anyOf, eqList}
 use Rattle.program.specs.Names.{Name, twoCharacters, reserved, userName}
 use Rattle.program.proofs.Keys.{eqList-refl}
 use Rattle.text.specs.Forms.{Line, Label, Declared}
-use Rattle.text.specs.Faults.{count, makesLabel, makesVariable, placeOf, declares, declaresIt, repeated, firstMakes}
+use Rattle.text.specs.Faults.{howMany, makesLabel, makesVariable, placeOf, declares, declaresIt, repeated, firstMakes}
 use Rattle.image.specs.Layout.{labelPlace, labelTarget, variablePlace, nameAt}
 use Rattle.image.specs.Check.{recordPlace, recordName}
 use Rattle.translation.specs.Images.{imageOf}
@@ -26,7 +26,7 @@ pub record LabelLine (xs : List Line) (k : ℕ) : Type 0 where
   pub name : Name
   pub rest : List Line
   pub whole : xs ≡ before ++ (Label name ∷ rest)
-  pub rank : count makesLabel before ≡ k
+  pub rank : howMany makesLabel before ≡ k
 
 pub record VariableLine (xs : List Line) (k : ℕ) : Type 0 where
   pub before : List Line
@@ -34,9 +34,9 @@ pub record VariableLine (xs : List Line) (k : ℕ) : Type 0 where
   pub start : ℤ
   pub rest : List Line
   pub whole : xs ≡ before ++ (Declared name start ∷ rest)
-  pub rank : count makesVariable before ≡ k
+  pub rank : howMany makesVariable before ≡ k
 
-pub label-line : (xs : List Line) (k : ℕ) → k < count makesLabel xs → LabelLine xs k
+pub label-line : (xs : List Line) (k : ℕ) → k < howMany makesLabel xs → LabelLine xs k
 label-line xs k h =
     let i = here makesLabel xs k h in
     let l = label-is (i .line) (i .passes) in
@@ -48,7 +48,7 @@ label-line xs k h =
       rank = i .rank;
     }
 
-pub variable-line : (xs : List Line) (k : ℕ) → k < count makesVariable xs → VariableLine xs k
+pub variable-line : (xs : List Line) (k : ℕ) → k < howMany makesVariable xs → VariableLine xs k
 variable-line xs k h =
     let i = here makesVariable xs k h in
     let v = variable-is (i .line) (i .passes) in
@@ -64,7 +64,7 @@ variable-line xs k h =
 -- A line that declares a name.
 module _ (w : Name) (x : Line) (d : declares x ≡ w ∷ []) where
   pub declares-it : declaresIt w x ≡ true
-  unfolding declaresIt any
+  unfolding declaresIt anyOf
   declares-it = rw d (one (eqList w w) (eqList-refl w))
     where
       one : (b : Bool) → T b → (b || false) ≡ true
@@ -73,16 +73,16 @@ module _ (w : Name) (x : Line) (d : declares x ≡ w ∷ []) where
 
   module _ (text before : List Line) (g : Good text before x) where
     -- no line before it declares the name
-    pub declared-once : any (declaresIt w) before ≡ false
-    unfolding repeated any
+    pub declared-once : anyOf (declaresIt w) before ≡ false
+    unfolding repeated anyOf
     declared-once =
         let e : repeated before x ≡ false = g .once in
-        neither (any (declaresIt w) before) false (rw (repeated, d) at e) .0
+        neither (anyOf (declaresIt w) before) false (rw (repeated, d) at e) .0
 
     -- which is not reserved
     pub declared-free : reserved w ≡ false
-    unfolding any
-    declared-free = let e : any reserved (declares x) ≡ false = g .free in neither (reserved w) false (rw d at e) .0
+    unfolding anyOf
+    declared-free = let e : anyOf reserved (declares x) ≡ false = g .free in neither (reserved w) false (rw d at e) .0
 
     pub declared-user : T (twoCharacters w) → userName w ≡ true
     unfolding userName
@@ -94,7 +94,7 @@ module _ (w : Name) (x : Line) (d : declares x ≡ w ∷ []) where
 
 -- The number of a name's record, the labels' first.
 pub recordOf : List Line → Name → ℕ
-recordOf xs w = cond (firstMakes makesLabel w xs) (rankBy makesLabel xs w) (count makesLabel xs + rankBy makesVariable xs w)
+recordOf xs w = cond (firstMakes makesLabel w xs) (rankBy makesLabel xs w) (howMany makesLabel xs + rankBy makesVariable xs w)
 
 -- A record of a text's image: its name is one of the user's, and gives back the number.
 pub record Recorded (xs : List Line) (k : ℕ) : Type 0 where
@@ -103,7 +103,7 @@ pub record Recorded (xs : List Line) (k : ℕ) : Type 0 where
 
 module _ (xs : List Line) (f : Fine xs) where
   -- Image 9, Image 10: a label record has the name of its line, and its place
-  pub label-record : (k : ℕ) (h : k < count makesLabel xs)
+  pub label-record : (k : ℕ) (h : k < howMany makesLabel xs)
       → (nameAt (imageOf xs) (labelPlace (imageOf xs) k) ≡ label-line xs k h .name) × (labelTarget (imageOf xs) k ≡ placeOf xs (label-line xs k h .name))
   label-record k h =
       let l = label-line xs k h in (
@@ -111,12 +111,12 @@ module _ (xs : List Line) (f : Fine xs) where
         ap (labelTarget (imageOf xs)) (sym (l .rank)) ∙ label-target xs f (l .before) (l .rest) (l .name) (l .whole),
       )
 
-  label-recorded : (k : ℕ) → k < count makesLabel xs → Recorded xs k
+  label-recorded : (k : ℕ) → k < howMany makesLabel xs → Recorded xs k
   unfolding recordName recordPlace recordOf makesLabel declares
   label-recorded k h =
       let l = label-line xs k h in
       let g = good xs f (l .before) (Label (l .name)) (l .rest) (l .whole) in
-      let place : recordPlace (imageOf xs) k ≡ labelPlace (imageOf xs) k = rw (label-count xs f, lt-ltb k (count makesLabel xs) h) in
+      let place : recordPlace (imageOf xs) k ≡ labelPlace (imageOf xs) k = rw (label-count xs f, lt-ltb k (howMany makesLabel xs) h) in
       let n : recordName (imageOf xs) k ≡ l .name =
       ap (nameAt (imageOf xs)) place ∙ label-record k h .0 in
       let once = declared-once (l .name) (Label (l .name)) refl xs (l .before) g in
@@ -132,16 +132,16 @@ module _ (xs : List Line) (f : Fine xs) where
         number = ap (recordOf xs) n ∙ rw (first, rank);
       }
 
-  variable-recorded : (k : ℕ) → k < count makesVariable xs → Recorded xs (count makesLabel xs + k)
+  variable-recorded : (k : ℕ) → k < howMany makesVariable xs → Recorded xs (howMany makesLabel xs + k)
   unfolding recordName recordPlace recordOf makesLabel declares
   variable-recorded k h =
       let l = variable-line xs k h in
       let x = Declared (l .name) (l .start) in
       let g = good xs f (l .before) x (l .rest) (l .whole) in
-      let less : (count makesLabel xs + k) - count makesLabel xs ≡ k = omega arith in
-      let place : recordPlace (imageOf xs) (count makesLabel xs + k) ≡ variablePlace (imageOf xs) k =
-      rw (label-count xs f, le-ltb (count makesLabel xs + k) (count makesLabel xs) (omega arith), less) in
-      let n : recordName (imageOf xs) (count makesLabel xs + k) ≡ l .name =
+      let less : (howMany makesLabel xs + k) - howMany makesLabel xs ≡ k = omega arith in
+      let place : recordPlace (imageOf xs) (howMany makesLabel xs + k) ≡ variablePlace (imageOf xs) k =
+      rw (label-count xs f, le-ltb (howMany makesLabel xs + k) (howMany makesLabel xs) (omega arith), less) in
+      let n : recordName (imageOf xs) (howMany makesLabel xs + k) ≡ l .name =
       ap (nameAt (imageOf xs)) (place ∙ ap (variablePlace (imageOf xs)) (sym (l .rank)))
       ∙ variable-name xs f (l .before) (l .rest) (l .name) (l .start) (l .whole) in
       let once = declared-once (l .name) x refl xs (l .before) g in
@@ -155,17 +155,17 @@ module _ (xs : List Line) (f : Fine xs) where
         number = ap (recordOf xs) n ∙ rw (first, rank);
       }
 
-  pub recorded : (k : ℕ) → k < count makesLabel xs + count makesVariable xs → Recorded xs k
-  recorded k h = go (ltb k (count makesLabel xs)) refl
+  pub recorded : (k : ℕ) → k < howMany makesLabel xs + howMany makesVariable xs → Recorded xs k
+  recorded k h = go (ltb k (howMany makesLabel xs)) refl
     where
-      go : (b : Bool) → ltb k (count makesLabel xs) ≡ b → Recorded xs k
-      go true e = label-recorded k (ltb-true k (count makesLabel xs) e)
+      go : (b : Bool) → ltb k (howMany makesLabel xs) ≡ b → Recorded xs k
+      go true e = label-recorded k (ltb-true k (howMany makesLabel xs) e)
       go false e =
-          let l = ltb-false k (count makesLabel xs) e in
-          let m : count makesLabel xs + (k - count makesLabel xs) ≡ k = omega arith in
-          subst (Recorded xs) m (variable-recorded (k - count makesLabel xs) (omega arith))
+          let l = ltb-false k (howMany makesLabel xs) e in
+          let m : howMany makesLabel xs + (k - howMany makesLabel xs) ≡ k = omega arith in
+          subst (Recorded xs) m (variable-recorded (k - howMany makesLabel xs) (omega arith))
 
   -- no two records have one name
-  pub names-apart : (j k : ℕ) → j < count makesLabel xs + count makesVariable xs → k < count makesLabel xs + count makesVariable xs
+  pub names-apart : (j k : ℕ) → j < howMany makesLabel xs + howMany makesVariable xs → k < howMany makesLabel xs + howMany makesVariable xs
       → recordName (imageOf xs) j ≡ recordName (imageOf xs) k → j ≡ k
   names-apart j k h l e = sym (recorded j h .number) ∙ ap (recordOf xs) e ∙ recorded k l .number

@@ -10,7 +10,7 @@ use borrow.Author.Tests.{eqb-false}
 use lib.Dec.{T, eqb}
 use lib.IntN.{ℤ}
 use lib.ListN.{length}
-use Rattle.numbers.specs.Tests.{eqList, all, numbered}
+use Rattle.numbers.specs.Tests.{eqList, allOf, numbered}
 use Rattle.program.specs.Names.{Name, twoCharacters, userName}
 use Rattle.program.specs.Statements.{Value, Literal, Variable, Condition, Always, Compare, Statement, Set, SetWith, IC, DC, BR, CL, RT, E, H, Hold, OE, Disarm, MA, MR, SL, PR}
 use Rattle.program.proofs.Places.{numbered-most}
@@ -211,7 +211,7 @@ said-parsed (t ∷ ts) x e = by-form forms (t ∷ ts) x all-lead e
 
 pub reading-parsed : (l : List ℕ) (x : Line) → reading l ≡ some x → Parsed x
 unfolding reading
-reading-parsed l x e = go (all printable l) e where
+reading-parsed l x e = go (allOf printable l) e where
   go : (b : Bool) → cond b (statement (tokens (uncommented l))) none ≡ some x → Parsed x
   go true k = said-parsed (tokens (uncommented l)) x k
   go false k = let z : _≡_ {A = ℕ} 0 1 = cc in absurd (omega arith)

@@ -2,16 +2,16 @@
 -- Assumes nothing.
 use mathlib.Core.Path.{_≡_, refl, sym, ap}
 use mathlib.Core.Bool.{Bool, true, false, cond}
-use mathlib.Core.List.{List, [], _∷_, _++_, append-assoc}
+use mathlib.Core.List.{List, [], _∷_, _++_, append-assoc, flatMap}
 use Prim.Native.Nat.{ℕ, zero, suc, _+_, _≤_, _<_}
 use native.Mathlib.Omega.{arith}
 use lib.IntN.{ℤ}
 use lib.ListN.{length, getD}
-use Rattle.numbers.specs.Tests.{any, joined}
+use Rattle.numbers.specs.Tests.{anyOf}
 use Rattle.program.specs.Names.{Name}
 use Rattle.program.specs.Statements.{Statement}
 use Rattle.text.specs.Forms.{Line, Blank, Label, Declared, Acts}
-use Rattle.text.specs.Faults.{count, makesCell, makesLabel, makesVariable, declaresIt, firstMakes, placeOf, rankOf}
+use Rattle.text.specs.Faults.{howMany, makesCell, makesLabel, makesVariable, declaresIt, firstMakes, placeOf, rankOf}
 use Rattle.translation.specs.Places.{lineAt, starts}
 use Rattle.agreement.proofs.Sound.{neither}
 
@@ -22,14 +22,14 @@ pub record Here (p : Line → Bool) (xs : List Line) (k : ℕ) : Type 0 where
   pub rest : List Line
   pub whole : xs ≡ before ++ (line ∷ rest)
   pub passes : p line ≡ true
-  pub rank : count p before ≡ k
+  pub rank : howMany p before ≡ k
 
 module _ (p : Line → Bool) where
-  pub here : (xs : List Line) (k : ℕ) → k < count p xs → Here p xs k
-  unfolding count
+  pub here : (xs : List Line) (k : ℕ) → k < howMany p xs → Here p xs k
+  unfolding howMany
   here [] k h = absurd (omega arith)
   here (x ∷ xs) k h = go (p x) k refl h (here xs) where
-    go : (b : Bool) (k : ℕ) → p x ≡ b → k < cond b (suc (count p xs)) (count p xs) → ((j : ℕ) → j < count p xs → Here p xs j) → Here p (x ∷ xs) k
+    go : (b : Bool) (k : ℕ) → p x ≡ b → k < cond b (suc (howMany p xs)) (howMany p xs) → ((j : ℕ) → j < howMany p xs → Here p xs j) → Here p (x ∷ xs) k
     go true zero e h r = record { before = []; line = x; rest = xs; whole = refl; passes = e; rank = refl }
     go true (suc j) e h r =
         let i = r j (omega arith) in
@@ -52,25 +52,25 @@ module _ (p : Line → Bool) where
           rank = rw e (i .rank);
         }
 
-  pub count-append : (a b : List Line) → count p (a ++ b) ≡ count p a + count p b
-  unfolding count
+  pub count-append : (a b : List Line) → howMany p (a ++ b) ≡ howMany p a + howMany p b
+  unfolding howMany
   count-append [] b = omega arith
   count-append (x ∷ a) b = go (p x) (count-append a b) where
-    go : (t : Bool) → count p (a ++ b) ≡ count p a + count p b
-        → cond t (suc (count p (a ++ b))) (count p (a ++ b)) ≡ cond t (suc (count p a)) (count p a) + count p b
+    go : (t : Bool) → howMany p (a ++ b) ≡ howMany p a + howMany p b
+        → cond t (suc (howMany p (a ++ b))) (howMany p (a ++ b)) ≡ cond t (suc (howMany p a)) (howMany p a) + howMany p b
     go true e = omega arith
     go false e = e
 
   -- a line that passes is behind fewer than all
-  pub count-behind : (before : List Line) (x : Line) (rest : List Line) → p x ≡ true → count p before < count p (before ++ (x ∷ rest))
-  unfolding count
+  pub count-behind : (before : List Line) (x : Line) (rest : List Line) → p x ≡ true → howMany p before < howMany p (before ++ (x ∷ rest))
+  unfolding howMany
   count-behind before x rest e =
-      let h : count p (x ∷ rest) ≡ suc (count p rest) = rw e in
+      let h : howMany p (x ∷ rest) ≡ suc (howMany p rest) = rw e in
       omega (arith, count-append before (x ∷ rest))
 
 -- Of two fronts of one list, the one with fewer lines of a kind has no more of another.
-pub fronts : (p q : Line → Bool) (a b c d : List Line) → a ++ b ≡ c ++ d → count p a < count p c → count q a ≤ count q c
-unfolding count
+pub fronts : (p q : Line → Bool) (a b c d : List Line) → a ++ b ≡ c ++ d → howMany p a < howMany p c → howMany q a ≤ howMany q c
+unfolding howMany
 fronts p q [] b c d e h = omega arith
 fronts p q (x ∷ a) b [] d e h = absurd (omega arith)
 fronts p q (x ∷ a) b (y ∷ c) d e h =
@@ -78,8 +78,8 @@ fronts p q (x ∷ a) b (y ∷ c) d e h =
     let more : a ++ b ≡ c ++ d = cc in
     rw first (go (p y) (q y) (fronts p q a b c d more) (rw first at h))
   where
-    go : (s t : Bool) → (count p a < count p c → count q a ≤ count q c) → cond s (suc (count p a)) (count p a) < cond s (suc (count p c)) (count p c)
-        → cond t (suc (count q a)) (count q a) ≤ cond t (suc (count q c)) (count q c)
+    go : (s t : Bool) → (howMany p a < howMany p c → howMany q a ≤ howMany q c) → cond s (suc (howMany p a)) (howMany p a) < cond s (suc (howMany p c)) (howMany p c)
+        → cond t (suc (howMany q a)) (howMany q a) ≤ cond t (suc (howMany q c)) (howMany q c)
     go true true r h = let l = r (omega arith) in omega arith
     go true false r h = r (omega arith)
     go false true r h = let l = r h in omega arith
@@ -108,24 +108,24 @@ variable-is (Declared w z) e = (w, z, refl)
 variable-is (Acts s) e = let z : _≡_ {A = ℕ} 0 1 = cc in absurd (omega arith)
 
 -- The statement at a place, and the start value of a variable.
-pub line-at : (before : List Line) (s : Statement Name) (rest : List Line) → lineAt (before ++ (Acts s ∷ rest)) (count makesCell before) ≡ s
-unfolding lineAt count makesCell
+pub line-at : (before : List Line) (s : Statement Name) (rest : List Line) → lineAt (before ++ (Acts s ∷ rest)) (howMany makesCell before) ≡ s
+unfolding lineAt howMany makesCell
 line-at [] s rest = refl
 line-at (Blank ∷ xs) s rest = line-at xs s rest
 line-at (Label w ∷ xs) s rest = line-at xs s rest
 line-at (Declared w z ∷ xs) s rest = line-at xs s rest
 line-at (Acts t ∷ xs) s rest = line-at xs s rest
 
-pub start-at : (before : List Line) (w : Name) (z d : ℤ) (rest : List Line) → getD (starts (before ++ (Declared w z ∷ rest))) (count makesVariable before) d ≡ z
-unfolding starts count makesVariable
+pub start-at : (before : List Line) (w : Name) (z d : ℤ) (rest : List Line) → getD (starts (before ++ (Declared w z ∷ rest))) (howMany makesVariable before) d ≡ z
+unfolding starts howMany makesVariable
 start-at [] w z d rest = refl
 start-at (Blank ∷ xs) w z d rest = start-at xs w z d rest
 start-at (Label v ∷ xs) w z d rest = start-at xs w z d rest
 start-at (Declared v y ∷ xs) w z d rest = start-at xs w z d rest
 start-at (Acts s ∷ xs) w z d rest = start-at xs w z d rest
 
-pub starts-length : (xs : List Line) → length (starts xs) ≡ count makesVariable xs
-unfolding starts count makesVariable
+pub starts-length : (xs : List Line) → length (starts xs) ≡ howMany makesVariable xs
+unfolding starts howMany makesVariable
 starts-length [] = refl
 starts-length (Blank ∷ xs) = starts-length xs
 starts-length (Label w ∷ xs) = starts-length xs
@@ -149,45 +149,39 @@ rank-rank (x ∷ xs) w = rw (rank-rank xs w)
 
 module _ (p : Line → Bool) (w : Name) where
   -- a line that declares a name that no line before it does is the first that declares it
-  pub first-here : (before : List Line) (x : Line) (rest : List Line) → any (declaresIt w) before ≡ false → declaresIt w x ≡ true
+  pub first-here : (before : List Line) (x : Line) (rest : List Line) → anyOf (declaresIt w) before ≡ false → declaresIt w x ≡ true
       → firstMakes p w (before ++ (x ∷ rest)) ≡ p x
-  unfolding firstMakes any
+  unfolding firstMakes anyOf
   first-here [] x rest h e = rw e
   first-here (y ∷ before) x rest h e =
-      let n = neither (declaresIt w y) (any (declaresIt w) before) h in
+      let n = neither (declaresIt w y) (anyOf (declaresIt w) before) h in
       rw (n .0) (first-here before x rest (n .1) e)
 
-  pub rank-here : (before : List Line) (x : Line) (rest : List Line) → any (declaresIt w) before ≡ false → declaresIt w x ≡ true
-      → rankBy p (before ++ (x ∷ rest)) w ≡ count p before
-  unfolding rankBy any count
+  pub rank-here : (before : List Line) (x : Line) (rest : List Line) → anyOf (declaresIt w) before ≡ false → declaresIt w x ≡ true
+      → rankBy p (before ++ (x ∷ rest)) w ≡ howMany p before
+  unfolding rankBy anyOf howMany
   rank-here [] x rest h e = rw e
   rank-here (y ∷ before) x rest h e =
-      let n = neither (declaresIt w y) (any (declaresIt w) before) h in
+      let n = neither (declaresIt w y) (anyOf (declaresIt w) before) h in
       rw (n .0, rank-here before x rest (n .1) e)
 
   -- no more than all, and fewer where the first line that declares the name passes
-  pub rank-most : (xs : List Line) → rankBy p xs w ≤ count p xs
-  unfolding rankBy count
+  pub rank-most : (xs : List Line) → rankBy p xs w ≤ howMany p xs
+  unfolding rankBy howMany
   rank-most [] = omega arith
   rank-most (x ∷ xs) = go (declaresIt w x) (p x) (rank-most xs) where
-    go : (b c : Bool) → rankBy p xs w ≤ count p xs → cond b 0 (cond c (suc (rankBy p xs w)) (rankBy p xs w)) ≤ cond c (suc (count p xs)) (count p xs)
+    go : (b c : Bool) → rankBy p xs w ≤ howMany p xs → cond b 0 (cond c (suc (rankBy p xs w)) (rankBy p xs w)) ≤ cond c (suc (howMany p xs)) (howMany p xs)
     go true c h = omega arith
     go false true h = omega arith
     go false false h = h
 
-  pub rank-below : (xs : List Line) → firstMakes p w xs ≡ true → rankBy p xs w < count p xs
-  unfolding rankBy count firstMakes
+  pub rank-below : (xs : List Line) → firstMakes p w xs ≡ true → rankBy p xs w < howMany p xs
+  unfolding rankBy howMany firstMakes
   rank-below [] e = let z : _≡_ {A = ℕ} 0 1 = cc in absurd (omega arith)
   rank-below (x ∷ xs) e = go (declaresIt w x) (p x) e (rank-below xs) where
-    go : (b c : Bool) → cond b c (firstMakes p w xs) ≡ true → (firstMakes p w xs ≡ true → rankBy p xs w < count p xs)
-        → cond b 0 (cond c (suc (rankBy p xs w)) (rankBy p xs w)) < cond c (suc (count p xs)) (count p xs)
+    go : (b c : Bool) → cond b c (firstMakes p w xs) ≡ true → (firstMakes p w xs ≡ true → rankBy p xs w < howMany p xs)
+        → cond b 0 (cond c (suc (rankBy p xs w)) (rankBy p xs w)) < cond c (suc (howMany p xs)) (howMany p xs)
     go true true e h = omega arith
     go true false e h = let z : _≡_ {A = ℕ} 0 1 = cc in absurd (omega arith)
     go false true e h = let l = h e in omega arith
     go false false e h = h e
-
--- The parts of all lines, before a line and behind it.
-pub joined-append : (f : Line → List ℕ) (a b : List Line) → joined f (a ++ b) ≡ joined f a ++ joined f b
-unfolding joined
-joined-append f [] b = refl
-joined-append f (x ∷ a) b = rw (joined-append f a b) (sym (append-assoc (f x) (joined f a) (joined f b)))

@@ -7,14 +7,14 @@ use Prim.Native.Nat.{ℕ, _+_, _≤_, _<_}
 use native.Mathlib.Omega.{arith}
 use borrow.Author.Tests.{le-leb, lt-leb, lt-ltb, eq-eqb, eqb-false, not-false}
 use lib.Dec.{T, eqb, leb}
-use Rattle.numbers.specs.Tests.{any, eqList}
+use Rattle.numbers.specs.Tests.{anyOf, eqList}
 use Rattle.program.specs.Names.{Name, paperVariable}
 use Rattle.program.specs.Variables.{inRange, literals, present, readOnly}
 use Rattle.program.specs.Statements.{Value, Literal, Variable, Condition, Always, Compare, Statement, Set, SetWith, IC, DC, BR, CL, RT, E, H, Hold, OE, Disarm, MA, MR, SL, PR, compared, operands, writes, targets}
 use Rattle.program.proofs.Places.{paper-most}
 use Rattle.program.proofs.Keys.{eqList-eq}
 use Rattle.text.specs.Forms.{Line, Blank, Label, Declared, Acts}
-use Rattle.text.specs.Faults.{count, makesLabel, makesVariable, declares, declaresIt, firstMakes, placeOf, rankOf, numberOf, unknownVariable, unknownValue, unknownIn, undeclared, readOnlyWritten, tooBig, bigValue, bigIn}
+use Rattle.text.specs.Faults.{howMany, makesLabel, makesVariable, declares, declaresIt, firstMakes, placeOf, rankOf, numberOf, unknownVariable, unknownValue, unknownIn, undeclared, readOnlyWritten, tooBig, bigValue, bigIn}
 use Rattle.image.specs.Layout.{labelTarget}
 use Rattle.image.specs.Code.{labelled}
 use Rattle.image.proofs.Any.{that-is, or-true}
@@ -27,12 +27,12 @@ use Rattle.agreement.proofs.Records.{label-count, label-target}
 
 -- One or two of a list without a fault.
 module _ {A : Type 0} (p : A → Bool) where
-  one-none : (x : A) → any p (x ∷ []) ≡ false → p x ≡ false
-  unfolding any
+  one-none : (x : A) → anyOf p (x ∷ []) ≡ false → p x ≡ false
+  unfolding anyOf
   one-none x e = neither (p x) false e .0
 
-  two-none : (x y : A) → any p (x ∷ y ∷ []) ≡ false → (p x ≡ false) × (p y ≡ false)
-  unfolding any
+  two-none : (x y : A) → anyOf p (x ∷ y ∷ []) ≡ false → (p x ≡ false) × (p y ≡ false)
+  unfolding anyOf
   two-none x y e = let a = neither (p x) (p y || false) e in (a .0, neither (p y) false (a .1) .0)
 
 -- ---- variables
@@ -55,18 +55,18 @@ module _ (users n : ℕ) where
 
 module _ (xs : List Line) (v : Name) where
   -- a variable that is known has a number that is present
-  pub number-present : unknownVariable xs v ≡ false → present (count makesVariable xs) (numberOf xs v) ≡ true
+  pub number-present : unknownVariable xs v ≡ false → present (howMany makesVariable xs) (numberOf xs v) ≡ true
   unfolding unknownVariable numberOf
   number-present h = go (eqb (paperVariable v) 0) refl h
     where
       go : (b : Bool) → eqb (paperVariable v) 0 ≡ b → (b && not (firstMakes makesVariable v xs)) ≡ false
-          → present (count makesVariable xs) (cond b (32 + rankOf xs v) (paperVariable v)) ≡ true
+          → present (howMany makesVariable xs) (cond b (32 + rankOf xs v) (paperVariable v)) ≡ true
       go true e k =
           let m = not-false (firstMakes makesVariable v xs) k in
-          rw (rank-rank xs v) (user-present (count makesVariable xs) (rankBy makesVariable xs v) (rank-below makesVariable v xs m))
+          rw (rank-rank xs v) (user-present (howMany makesVariable xs) (rankBy makesVariable xs v) (rank-below makesVariable v xs m))
       go false e k =
           let l = eqb-false (paperVariable v) 0 e in
-          paper-present (count makesVariable xs) (paperVariable v) (omega arith) (paper-most v)
+          paper-present (howMany makesVariable xs) (paperVariable v) (omega arith) (paper-most v)
 
   -- and one that is not read-only by its name is not so by its number
   pub number-writable : readOnly (paperVariable v) ≡ false → readOnly (numberOf xs v) ≡ false
@@ -87,7 +87,7 @@ pub record LabelOf (xs : List Line) (w : Name) : Type 0 where
 
 -- The first line that declares a name, where it makes a label.
 declares-label : (w : Name) (x : Line) → declaresIt w x ≡ true → makesLabel x ≡ true → x ≡ Label w
-unfolding declaresIt declares any makesLabel
+unfolding declaresIt declares anyOf makesLabel
 declares-label w Blank d m = let z : _≡_ {A = ℕ} 0 1 = cc in absurd (omega arith)
 declares-label w (Label v) d m = ap Label (sym (eqList-eq w v (only (eqList w v) d)))
   where
@@ -115,27 +115,27 @@ module _ (xs : List Line) (f : Fine xs) where
   unfolding labelled makesLabel
   label-there w e =
       let l = label-of xs w e in
-      let below : count makesLabel (l .before) < count makesLabel xs =
-      subst (λ (ys : List Line). count makesLabel (l .before) < count makesLabel ys) (sym (l .whole)) (count-behind makesLabel (l .before) (Label w) (l .rest) refl) in
+      let below : howMany makesLabel (l .before) < howMany makesLabel xs =
+      subst (λ (ys : List Line). howMany makesLabel (l .before) < howMany makesLabel ys) (sym (l .whole)) (count-behind makesLabel (l .before) (Label w) (l .rest) refl) in
       sym
-      (that-is (λ k. eqb (labelTarget (imageOf xs) k) (placeOf xs w)) (count makesLabel (l .before)) (sym (label-count xs f)) below refl
-      (eq-eqb (labelTarget (imageOf xs) (count makesLabel (l .before))) (placeOf xs w) (label-target xs f (l .before) (l .rest) w (l .whole))))
+      (that-is (λ k. eqb (labelTarget (imageOf xs) k) (placeOf xs w)) (howMany makesLabel (l .before)) (sym (label-count xs f)) below refl
+      (eq-eqb (labelTarget (imageOf xs) (howMany makesLabel (l .before))) (placeOf xs w) (label-target xs f (l .before) (l .rest) w (l .whole))))
 
   -- ---- a statement
 
   abbrev Writes′ : Name → Type 0
-  Writes′ v = Writes (placeOf xs) (numberOf xs) (imageOf xs) (count makesVariable xs) v
+  Writes′ v = Writes (placeOf xs) (numberOf xs) (imageOf xs) (howMany makesVariable xs) v
 
   abbrev Reads′ : Value Name → Type 0
-  Reads′ x = Reads (placeOf xs) (numberOf xs) (imageOf xs) (count makesVariable xs) x
+  Reads′ x = Reads (placeOf xs) (numberOf xs) (imageOf xs) (howMany makesVariable xs) x
 
   abbrev Names′ : Name → Type 0
-  Names′ n = Names (placeOf xs) (numberOf xs) (imageOf xs) (count makesVariable xs) n
+  Names′ n = Names (placeOf xs) (numberOf xs) (imageOf xs) (howMany makesVariable xs) n
 
   abbrev Chooses′ : ℕ → ℕ → Type 0
-  Chooses′ last n = Chooses (placeOf xs) (numberOf xs) (imageOf xs) (count makesVariable xs) last n
+  Chooses′ last n = Chooses (placeOf xs) (numberOf xs) (imageOf xs) (howMany makesVariable xs) last n
 
-  written : (v : Name) → any (unknownVariable xs) (v ∷ []) ≡ false → any (λ u. readOnly (paperVariable u)) (v ∷ []) ≡ false → Writes′ v
+  written : (v : Name) → anyOf (unknownVariable xs) (v ∷ []) ≡ false → anyOf (λ u. readOnly (paperVariable u)) (v ∷ []) ≡ false → Writes′ v
   unfolding Writes
   written v u r =
       rw (
@@ -148,7 +148,7 @@ module _ (xs : List Line) (f : Fine xs) where
   known (Literal z) b u = not-false (inRange literals z) b
   known (Variable v) b u = number-present xs v u
 
-  named : (n : Name) → any (λ n. not (firstMakes makesLabel n xs)) (n ∷ []) ≡ false → Names′ n
+  named : (n : Name) → anyOf (λ n. not (firstMakes makesLabel n xs)) (n ∷ []) ≡ false → Names′ n
   unfolding Names
   named n e = label-there n (not-false (firstMakes makesLabel n xs) (one-none (λ n. not (firstMakes makesLabel n xs)) n e))
 
@@ -156,25 +156,25 @@ module _ (xs : List Line) (f : Fine xs) where
   unfolding Chooses
   chosen last n h = rw (le-leb 1 n (h .0), le-leb n last (h .1))
 
-  read-one : (x : Value Name) → any bigValue (x ∷ []) ≡ false → any (unknownValue xs) (x ∷ []) ≡ false → Reads′ x
+  read-one : (x : Value Name) → anyOf bigValue (x ∷ []) ≡ false → anyOf (unknownValue xs) (x ∷ []) ≡ false → Reads′ x
   read-one x b u = known x (one-none bigValue x b) (one-none (unknownValue xs) x u)
 
-  read-two : (x y : Value Name) → any bigValue (x ∷ y ∷ []) ≡ false → any (unknownValue xs) (x ∷ y ∷ []) ≡ false → Reads′ x × Reads′ y
+  read-two : (x y : Value Name) → anyOf bigValue (x ∷ y ∷ []) ≡ false → anyOf (unknownValue xs) (x ∷ y ∷ []) ≡ false → Reads′ x × Reads′ y
   read-two x y b u =
       let c = two-none bigValue x y b in
       let d = two-none (unknownValue xs) x y u in
       (known x (c .0) (d .0), known y (c .1) (d .1))
 
-  compares : (c : Condition Name) → ParsedCondition c → any bigValue (compared c) ≡ false → any (unknownValue xs) (compared c) ≡ false
-      → Compares (placeOf xs) (numberOf xs) (imageOf xs) (count makesVariable xs) c
+  compares : (c : Condition Name) → ParsedCondition c → anyOf bigValue (compared c) ≡ false → anyOf (unknownValue xs) (compared c) ≡ false
+      → Compares (placeOf xs) (numberOf xs) (imageOf xs) (howMany makesVariable xs) c
   unfolding Compares compared
   compares Always h b u = tt
   compares (Compare x c y) h b u = let r = read-two x y b u in (r .0, chosen 6 c (h .1), r .1)
 
-  acts : (s : Statement Name) → ParsedStatement s → any bigValue (operands s) ≡ false
-      → any (λ n. not (firstMakes makesLabel n xs)) (targets s) ≡ false → any (unknownVariable xs) (writes s) ≡ false
-      → any (unknownValue xs) (operands s) ≡ false → any (λ v. readOnly (paperVariable v)) (writes s) ≡ false
-      → Acceptable (placeOf xs) (numberOf xs) (imageOf xs) (count makesVariable xs) s
+  acts : (s : Statement Name) → ParsedStatement s → anyOf bigValue (operands s) ≡ false
+      → anyOf (λ n. not (firstMakes makesLabel n xs)) (targets s) ≡ false → anyOf (unknownVariable xs) (writes s) ≡ false
+      → anyOf (unknownValue xs) (operands s) ≡ false → anyOf (λ v. readOnly (paperVariable v)) (writes s) ≡ false
+      → Acceptable (placeOf xs) (numberOf xs) (imageOf xs) (howMany makesVariable xs) s
   unfolding Acceptable operands targets writes
   acts (Set v x) h b t w u r = (written v w r, read-one x b u)
   acts (SetWith v x o y) h b t w u r = let k = read-two x y b u in (written v w r, k .0, chosen 7 o (h .2), k .1)
@@ -195,9 +195,9 @@ module _ (xs : List Line) (f : Fine xs) where
 
   -- the statement of a line of the text is one that the check of its image accepts
   pub acceptable : (before : List Line) (s : Statement Name) → Good xs before (Acts s)
-      → Acceptable (placeOf xs) (numberOf xs) (imageOf xs) (count makesVariable xs) s
+      → Acceptable (placeOf xs) (numberOf xs) (imageOf xs) (howMany makesVariable xs) s
   unfolding bigIn undeclared unknownIn readOnlyWritten
   acceptable before s g =
-      let t = neither (any (λ n. not (firstMakes makesLabel n xs)) (targets s)) _ (g .known) in
-      let w = neither (any (unknownVariable xs) (writes s)) (any (unknownValue xs) (operands s)) (t .1) in
+      let t = neither (anyOf (λ n. not (firstMakes makesLabel n xs)) (targets s)) _ (g .known) in
+      let w = neither (anyOf (unknownVariable xs) (writes s)) (anyOf (unknownValue xs) (operands s)) (t .1) in
       acts s (g .parsed) (g .small) (t .0) (w .0) (w .1) (g .writable)

@@ -6,11 +6,11 @@ use mathlib.Core.List.{List, [], _∷_, _++_, map, append-assoc, append-nil}
 use mathlib.Core.Option.{Option, none, some}
 use Prim.Native.Nat.{ℕ, _≤_}
 use borrow.Author.Tests.{eqb-true}
-use Rattle.numbers.specs.Tests.{any}
+use Rattle.numbers.specs.Tests.{anyOf}
 use Rattle.program.specs.Names.{reserved}
 use Rattle.text.specs.Lines.{lines}
 use Rattle.text.specs.Forms.{Line, Blank, reading}
-use Rattle.text.specs.Faults.{overlong, longLine, badForm, bigIn, bigLiteral, declares, reservedName, heard, repeated, undeclared, readOnlyWritten, said, firstFault, count, makesCell, makesLabel, makesVariable}
+use Rattle.text.specs.Faults.{overlong, longLine, badForm, bigIn, bigLiteral, declares, reservedName, heard, repeated, undeclared, readOnlyWritten, said, firstFault, howMany, makesCell, makesLabel, makesVariable}
 use Rattle.translation.specs.Images.{accepted}
 use Rattle.translation.proofs.Accepted.{Clean, all-clean, no-repeated, no-undeclared, no-read-only, few-cells, few-labels, few-variables}
 use Rattle.agreement.proofs.Parsed.{Parsed, reading-parsed}
@@ -49,15 +49,15 @@ module _ (l : List ℕ) where
   unfolding bigIn bigLiteral
   heard-small = heard-by (λ x. bigIn x ≡ false) l refl (λ x e b r. rw (bigLiteral, e) at b)
 
-  pub heard-free : any reserved (declares (heard l)) ≡ false
-  unfolding declares any reservedName
-  heard-free = heard-by (λ x. any reserved (declares x) ≡ false) l refl (λ x e b r. rw (reservedName, e) at r)
+  pub heard-free : anyOf reserved (declares (heard l)) ≡ false
+  unfolding declares anyOf reservedName
+  heard-free = heard-by (λ x. anyOf reserved (declares x) ≡ false) l refl (λ x e b r. rw (reservedName, e) at r)
 
 -- A line of a text, behind those before it.
 pub record Good (text before : List Line) (x : Line) : Type 0 where
   pub parsed : Parsed x
   pub small : bigIn x ≡ false
-  pub free : any reserved (declares x) ≡ false
+  pub free : anyOf reserved (declares x) ≡ false
   pub once : repeated before x ≡ false
   pub known : undeclared text x ≡ false
   pub writable : readOnlyWritten x ≡ false
@@ -83,9 +83,9 @@ clean-sound text before (l ∷ ls) h = (
 -- Lines that have an image.
 pub record Fine (xs : List Line) : Type 0 where
   pub sound : Sound xs [] xs
-  pub cells : count makesCell xs ≤ 256
-  pub labels : count makesLabel xs ≤ 160
-  pub variables : count makesVariable xs ≤ 32
+  pub cells : howMany makesCell xs ≤ 256
+  pub labels : howMany makesLabel xs ≤ 160
+  pub variables : howMany makesVariable xs ≤ 32
 
 pub fine : (text : List ℕ) → accepted text ≡ true → Fine (said text)
 unfolding accepted said

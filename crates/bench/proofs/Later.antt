@@ -7,9 +7,9 @@ use Prim.Native.Nat.{ℕ, _%_}
 use borrow.Author.Tests.{not-false, eqb-true}
 use lib.Dec.{T, eqb, leb, ltb}
 use lib.ListN.{length}
-use Rattle.numbers.specs.Tests.{all}
+use Rattle.numbers.specs.Tests.{allOf}
 use Rattle.image.specs.Layout.{cellCount, startValues}
-use Rattle.text.specs.Faults.{said, count, makesCell}
+use Rattle.text.specs.Faults.{said, howMany, makesCell}
 use Rattle.translation.specs.Places.{starts}
 use Rattle.machine.specs.declared.Event.{Event}
 use Rattle.machine.specs.Turn.{startMachine}
@@ -30,7 +30,7 @@ whole script e =
 -- Events 3: more behind a script, both accepted, changes neither answer nor buffer, where each event of it is at or after the turns that the run took.
 pub later-answer : (s script more : List ℕ) (budget : ℕ) (buffer : List ℕ)
     → ran s script budget (length buffer) .number ≡ 0 → ran s (script ++ more) budget (length buffer) .number ≡ 0
-    → T (all (λ (e : Event). leb (ran s script budget (length buffer) .turns) (e .turn)) (events more))
+    → T (allOf (λ (e : Event). leb (ran s script budget (length buffer) .turns) (e .turn)) (events more))
     → (ran s (script ++ more) budget (length buffer) ≡ ran s script budget (length buffer)) × (ranInto s (script ++ more) budget buffer ≡ ranInto s script budget buffer)
 unfolding ran ranInto ranAs runFaults imageCourse
 later-answer s script more budget buffer e f late =
@@ -44,8 +44,8 @@ later-answer s script more budget buffer e f late =
 
 -- Events 3: the same of the text's own run.
 pub later-followed : (text script more : List ℕ) (budget : ℕ) → length script % 12 ≡ 0
-    → T (all (λ (e : Event). leb (followed text script budget .turns) (e .turn)) (events more))
+    → T (allOf (λ (e : Event). leb (followed text script budget .turns) (e .turn)) (events more))
     → followed text (script ++ more) budget ≡ followed text script budget
 unfolding followed ranAs textCourse linesCourse
 later-followed text script more budget w late =
-    ap ranAs (later-bytes-unused script more w (lineActs (said text)) (count makesCell (said text)) budget 0 (startMachine (starts (said text))) late)
+    ap ranAs (later-bytes-unused script more w (lineActs (said text)) (howMany makesCell (said text)) budget 0 (startMachine (starts (said text))) late)

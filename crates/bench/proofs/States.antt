@@ -11,7 +11,7 @@ use lib.Dec.{T, eqb, leb, ltb, eqb→eq, le→leb}
 use lib.IntN.{pos}
 use lib.ListN.{length, getD}
 use Rattle.numbers.specs.Bytes.{field}
-use Rattle.numbers.specs.Tests.{all, any, anyBelow, listed}
+use Rattle.numbers.specs.Tests.{allOf, anyOf, anyBelow, listed}
 use Rattle.program.specs.Variables.{present, readOnly}
 use Rattle.program.specs.Statements.{Statement, OE, Disarm, writes, targets}
 use Rattle.program.specs.Cells.{noTarget, same, holdOf, statementBy, statementOf}
@@ -58,10 +58,10 @@ module _ {A : Type 0} where
   getD-listed f d from (suc n) zero h = ap f (omega arith)
   getD-listed f d from (suc n) (suc k) h = getD-listed f d (suc from) n k (omega arith) ∙ ap f (omega arith)
 
-  all-below : (p : A → Bool) (f : ℕ → A) (from n : ℕ) → ((k : ℕ) → k < from + n → T (p (f k))) → T (all p (listed from n f))
-  unfolding listed all
+  all-below : (p : A → Bool) (f : ℕ → A) (from n : ℕ) → ((k : ℕ) → k < from + n → T (p (f k))) → T (allOf p (listed from n f))
+  unfolding listed allOf
   all-below p f from zero h = tt
-  all-below p f from (suc n) h = both-of (p (f from)) (all p (listed (suc from) n f)) (h from (omega arith)) (all-below p f (suc from) n (λ k l. h k (omega arith)))
+  all-below p f from (suc n) h = both-of (p (f from)) (allOf p (listed (suc from) n f)) (h from (omega arith)) (all-below p f (suc from) n (λ k l. h k (omega arith)))
 
 is-so : (b : Bool) → T b → b ≡ true
 is-so true t = refl
@@ -81,11 +81,11 @@ module _ (s : List ℕ) (r : Recorded s) (k : ℕ) where
 
   -- A statement that names no label and writes no variable, by what it names and writes.
   bare : (x : Statement ℕ) → targets x ≡ [] → writes x ≡ [] → GoodCell x
-  unfolding all
+  unfolding allOf
   bare x e f = record { named = rw e tt; written = rw f tt }
 
   writing : (x : Statement ℕ) (v : ℕ) → targets x ≡ [] → writes x ≡ v ∷ [] → T (goodWritten (variableCount s) true v) → GoodCell x
-  unfolding all goodWritten writable
+  unfolding allOf goodWritten writable
   writing x v e f t = record { named = rw e tt; written = rw f (both-of (present (variableCount s) v && not (readOnly v)) true t tt) }
 
   -- A target that a label has is at most the cell count.
@@ -97,7 +97,7 @@ module _ (s : List ℕ) (r : Recorded s) (k : ℕ) where
       omega arith
 
   naming : (x : Statement ℕ) (n : ℕ) → targets x ≡ n ∷ [] → writes x ≡ [] → n ≤ cellCount s → GoodCell x
-  unfolding all
+  unfolding allOf
   naming x n e f h = record { named = rw e (both-of (leb n (cellCount s)) true (le→leb n (cellCount s) h) tt); written = rw f tt }
 
   labelled : (o n : ℕ) → eqb o 10 ≡ false → T (goodTarget s o true n) → n ≤ cellCount s
@@ -148,7 +148,7 @@ module _ (s : List ℕ) (r : Recorded s) (k : ℕ) where
       let g = fitting s (16 * k) (uses 10 false 0 false false true) t in
       by 10 (g .operation) (armed (eqb (cellAt s k .target) noTarget) refl (g .target))
 
-  pub good-cell : T (any (fits s (16 * k)) layouts) → GoodCell (statementOf (cellAt s k))
+  pub good-cell : T (anyOf (fits s (16 * k)) layouts) → GoodCell (statementOf (cellAt s k))
   unfolding layouts statementBy targets writes
   good-cell t =
       from-any (fits s (16 * k)) (GoodCell (statementOf (cellAt s k))) layouts (

@@ -9,9 +9,9 @@ use native.Mathlib.Omega.{arith}
 use borrow.Author.Tests.{eqb-true}
 use lib.Dec.{T, eqb, leb, leb→le}
 use lib.ListN.{length, getD}
-use Rattle.numbers.specs.Tests.{all}
+use Rattle.numbers.specs.Tests.{allOf}
 use Rattle.program.proofs.Keys.{both, both-of}
-use Rattle.text.specs.Lines.{before, lines}
+use Rattle.text.specs.Lines.{ontoFirstLine, lines}
 use Rattle.text.specs.Tokens.{printable, tokens, uncommented}
 use Rattle.text.specs.Forms.{statement, reading}
 use Rattle.text.specs.Faults.{badForm, firstFault}
@@ -20,18 +20,18 @@ use Rattle.refusals.proofs.First.{first-none}
 use Rattle.bench.specs.Demands.{Bytes}
 
 -- A line with a form is printable.
-formed : (l : List ℕ) → badForm l ≡ false → T (all printable l)
+formed : (l : List ℕ) → badForm l ≡ false → T (allOf printable l)
 unfolding badForm reading
-formed l e = go (all printable l) e where
+formed l e = go (allOf printable l) e where
   go : (t : Bool) → elim (cond t (statement (tokens (uncommented l))) none) [ none ↦ true | some x ↦ false ] ≡ false → T t
   go true e = tt
   go false e = absurd (true≢false e)
 
 -- What holds of each line by its number holds of all.
-all-by : {A : Type 0} (p : A → Bool) (d : A) (xs : List A) → ((i : ℕ) → i < length xs → T (p (getD xs i d))) → T (all p xs)
-unfolding all
+all-by : {A : Type 0} (p : A → Bool) (d : A) (xs : List A) → ((i : ℕ) → i < length xs → T (p (getD xs i d))) → T (allOf p xs)
+unfolding allOf
 all-by p d [] h = tt
-all-by p d (x ∷ xs) h = both-of (p x) (all p xs) (h 0 (omega arith)) (all-by p d xs (λ i l. h (suc i) (omega arith)))
+all-by p d (x ∷ xs) h = both-of (p x) (allOf p xs) (h 0 (omega arith)) (all-by p d xs (λ i l. h (suc i) (omega arith)))
 
 pub printable-byte : (b : ℕ) → T (printable b) → b < 256
 unfolding printable
@@ -42,20 +42,20 @@ one-more b bs h f zero = h
 one-more b bs h f (suc k) = f k
 
 -- One more byte in front of the first line.
-front : (b : ℕ) (ls : List (List ℕ)) → T (all (all printable) (before b ls)) → T (printable b) × T (all (all printable) ls)
-unfolding all before
+front : (b : ℕ) (ls : List (List ℕ)) → T (allOf (allOf printable) (ontoFirstLine b ls)) → T (printable b) × T (allOf (allOf printable) ls)
+unfolding allOf ontoFirstLine
 front b [] t = (both (printable b) true (both (printable b && true) true t .0) .0, tt)
 front b (l ∷ ls) t =
-    let u = both (printable b && all printable l) (all (all printable) ls) t in
-    let v = both (printable b) (all printable l) (u .0) in
-    (v .0, both-of (all printable l) (all (all printable) ls) (v .1) (u .1))
+    let u = both (printable b && allOf printable l) (allOf (allOf printable) ls) t in
+    let v = both (printable b) (allOf printable l) (u .0) in
+    (v .0, both-of (allOf printable l) (allOf (allOf printable) ls) (v .1) (u .1))
 
-lines-bytes : (text : List ℕ) → T (all (all printable) (lines text)) → Bytes text
-unfolding lines all
+lines-bytes : (text : List ℕ) → T (allOf (allOf printable) (lines text)) → Bytes text
+unfolding lines allOf
 lines-bytes [] t = λ k. omega arith
 lines-bytes (b ∷ bs) t = go (eqb b 10) (eqb b 13) (eqb (getD bs 0 0) 10) refl refl (lines-bytes bs) t where
-  go : (x y z : Bool) → eqb b 10 ≡ x → eqb b 13 ≡ y → (T (all (all printable) (lines bs)) → Bytes bs)
-      → T (all (all printable) (cond x ([] ∷ lines bs) (cond (y && z) (lines bs) (before b (lines bs))))) → Bytes (b ∷ bs)
+  go : (x y z : Bool) → eqb b 10 ≡ x → eqb b 13 ≡ y → (T (allOf (allOf printable) (lines bs)) → Bytes bs)
+      → T (allOf (allOf printable) (cond x ([] ∷ lines bs) (cond (y && z) (lines bs) (ontoFirstLine b (lines bs))))) → Bytes (b ∷ bs)
   go true y z e f more t = let q = eqb-true b 10 e in one-more b bs (omega arith) (more t)
   go false true true e f more t = let q = eqb-true b 13 f in one-more b bs (omega arith) (more t)
   go false true false e f more t = let u = front b (lines bs) t in one-more b bs (printable-byte b (u .0)) (more (u .1))
@@ -65,7 +65,7 @@ lines-bytes (b ∷ bs) t = go (eqb b 10) (eqb b 13) (eqb (getD bs 0 0) 10) refl 
 pub clean-bytes : (text : List ℕ) → firstFault text .number ≡ 0 → Bytes text
 clean-bytes text e =
     lines-bytes text
-    (all-by (all printable) [] (lines text)
+    (all-by (allOf printable) [] (lines text)
     (λ i h.
     let y : suc i - 1 ≡ i = omega arith in
     formed (getD (lines text) i []) (rw y at (sym (row-3 text (suc i) (omega arith) h) ∙ first-none text .0 e 3 (suc i)))))

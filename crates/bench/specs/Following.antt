@@ -3,7 +3,7 @@
 use mathlib.Core.List.{List}
 use Prim.Native.Nat.{ℕ}
 use Rattle.text.specs.Forms.{Line}
-use Rattle.text.specs.Faults.{said, count, makesCell, placeOf, numberOf}
+use Rattle.text.specs.Faults.{said, howMany, makesCell, placeOf, numberOf}
 use Rattle.translation.specs.Places.{lineAt, starts}
 use Rattle.effects.specs.declared.Effect.{Effect}
 use Rattle.effects.specs.Effects.{effect}
@@ -21,7 +21,7 @@ lineActs text m = effect (placeOf text) (numberOf text) (m .variables) (m .kept)
 
 -- Turn 6, Text 9: the text's own run from its start.
 unfoldable pub linesCourse : List Line → List ℕ → ℕ → Course
-linesCourse text script budget = runFrom (lineActs text) (count makesCell text) budget 0 (events script) (startMachine (starts text))
+linesCourse text script budget = runFrom (lineActs text) (howMany makesCell text) budget 0 (events script) (startMachine (starts text))
 
 unfoldable pub textCourse : List ℕ → List ℕ → ℕ → Course
 textCourse text script budget = linesCourse (said text) script budget

@@ -1,19 +1,18 @@
 -- What an effect tells of the variables and the places kept.
 -- Assumes nothing.
 use mathlib.Core.Path.{_≡_, refl}
-use mathlib.Core.Bool.{Bool, true, false, cond, _&&_}
+use mathlib.Core.Bool.{Bool, true, false, cond}
 use mathlib.Core.List.{List}
 use Prim.Native.Nat.{ℕ, _-_, _<_}
 use borrow.Author.Tests.{ltb-true}
-use lib.Dec.{eqb, ltb}
+use lib.Dec.{ltb}
 use lib.IntN.{ℤ, pos, natAbs, _+ℤ_, _-ℤ_}
 use Rattle.numbers.specs.Tests.{eqZ}
-use Rattle.program.specs.Variables.{inRange, literals, rangeOf}
-use Rattle.program.specs.Cells.{holdRange, slewRange}
-use Rattle.program.specs.Statements.{Value, Literal, Variable, Statement, Set, SetWith, IC, DC, BR, CL, RT, E, H, Hold, OE, Disarm, MA, MR, SL, PR}
+use Rattle.program.specs.Variables.{inRange, literals, holdRange, slewRange, rangeOf}
+use Rattle.program.specs.Statements.{Value, Literal, Variable, Operator, Statement, Set, SetWith, IC, DC, BR, CL, RT, E, H, Hold, OE, Disarm, MA, MR, SL, PR}
 use Rattle.effects.specs.declared.Effect.{Effect}
-use Rattle.effects.specs.declared.Effect.the-variants.{Fails, Stores, Passes, Goes, Calls, Returns, Ends, Stays, Holds, Arms, Moves, Slews, Prints}
-use Rattle.effects.specs.Effects.{read, storing, storingResult, operate, storingWith, calling, returning, waiting, holding, moving, slewing, value, holds, printing, branching, callingIf, effect}
+use Rattle.effects.specs.declared.Effect.the-variants.{Fails, Stores, Passes, Goes, Calls, Returns, Ends, Stays, Holds, Arms, Disarms, Moves, Slews, Prints}
+use Rattle.effects.specs.Effects.{read, storing, storingResult, operate, zeroDivisor, storingWith, calling, returning, waiting, holding, moving, slewing, value, holds, printing, branching, callingIf, effect}
 
 -- What holds of the machine where a statement has an effect: a place is free for a call, one is kept for a return, a stored value is in its range.
 abbrev pub Sound : List ℤ → ℕ → Effect → Type 0
@@ -27,6 +26,7 @@ Sound vars kept Ends = Unit {0}
 Sound vars kept Stays = Unit {0}
 Sound vars kept (Holds turns) = Unit {0}
 Sound vars kept (Arms cell) = Unit {0}
+Sound vars kept Disarms = Unit {0}
 Sound vars kept (Moves target kind z) = Unit {0}
 Sound vars kept (Slews z) = Unit {0}
 Sound vars kept (Prints v z) = Unit {0}
@@ -44,9 +44,9 @@ module _ (vars : List ℤ) (kept : ℕ) where
   unfolding storingResult
   sound-result v z = sound-cond (inRange literals z) (storing vars v z) (Fails 101) (λ e. sound-storing v z) tt
 
-  sound-with : (v o : ℕ) (x y : ℤ) → Sound vars kept (storingWith vars v o x y)
+  sound-with : (v : ℕ) (o : Operator) (x y : ℤ) → Sound vars kept (storingWith vars v o x y)
   unfolding storingWith
-  sound-with v o x y = sound-cond (eqb o 4 && eqZ y (pos 0)) (Fails 102) (storingResult vars v (operate o x y)) (λ e. tt) (sound-result v (operate o x y))
+  sound-with v o x y = sound-cond (zeroDivisor o y) (Fails 102) (storingResult vars v (operate o x y)) (λ e. tt) (sound-result v (operate o x y))
 
   sound-moving : (target : ℤ) (kind : ℕ) (z : ℤ) → Sound vars kept (moving vars target kind z)
   unfolding moving

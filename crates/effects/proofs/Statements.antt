@@ -6,14 +6,13 @@ use mathlib.Core.List.{List}
 use Prim.Native.Nat.{ℕ}
 use lib.Dec.{eqb}
 use lib.IntN.{ℤ, pos, _+ℤ_, _-ℤ_}
-use borrow.Author.Tests.{eqb-true}
 use Rattle.program.specs.declared.Cell.{Cell}
 use Rattle.program.specs.declared.Operand.{Operand}
 use Rattle.program.specs.declared.Operand.the-variants as O
 use Rattle.program.specs.Statements.{Value, Literal, Variable, Condition, Always, Compare, OE, Disarm, PR}
-use Rattle.program.specs.Cells.{same, noTarget, valueOf, conditionOf, holdOf, statementBy, statementOf}
+use Rattle.program.specs.Cells.{same, noTarget, operatorOf, valueOf, conditionOf, holdOf, statementBy, statementOf}
 use Rattle.effects.specs.declared.Effect.{Effect}
-use Rattle.effects.specs.declared.Effect.the-variants.{Passes, Goes, Ends, Arms}
+use Rattle.effects.specs.declared.Effect.the-variants.{Passes, Goes, Ends, Arms, Disarms}
 use Rattle.effects.specs.Effects.{read, storing, storingResult, storingWith, calling, returning, moving, slewing, value, holds, printing, branching, callingIf, effect}
 use Rattle.effects.specs.Code.{seen, met, holdingBy, printingBy}
 
@@ -45,10 +44,10 @@ module _ (vars : List ℤ) (kept hold : ℕ) where
   holding-by (O.Literal z) = refl
   holding-by (O.Variable v) = refl
 
-  arming : (n : ℕ) (t : Bool) → eqb n noTarget ≡ t → Arms n ≡ effect same same vars kept hold (cond t Disarm (OE n))
+  arming : (n : ℕ) (t : Bool) → cond t Disarms (Arms n) ≡ effect same same vars kept hold (cond t Disarm (OE n))
   unfolding effect
-  arming n true e = ap Arms (eqb-true n noTarget e)
-  arming n false e = refl
+  arming n true = refl
+  arming n false = refl
 
   pub printing-by : (o : Operand) → printingBy o vars ≡ effect same same vars kept hold (PR (valueOf o))
   unfolding printingBy effect printing valueOf
@@ -67,7 +66,7 @@ module _ (vars : List ℤ) (kept hold : ℕ) where
     unfolding statementBy effect
     does-set = rw (value-alike (valueOf (c .left)))
 
-    pub does-set-with : storingWith vars (c .written) (c .selector) (seen vars (c .left)) (seen vars (c .right)) ≡ effect same same vars kept hold (statementBy 2 c)
+    pub does-set-with : storingWith vars (c .written) (operatorOf (c .selector)) (seen vars (c .left)) (seen vars (c .right)) ≡ effect same same vars kept hold (statementBy 2 c)
     unfolding statementBy effect
     does-set-with = rw (value-alike (valueOf (c .left)), value-alike (valueOf (c .right)))
 
@@ -99,9 +98,9 @@ module _ (vars : List ℤ) (kept hold : ℕ) where
     unfolding statementBy
     does-hold = holding-by (c .left)
 
-    pub does-arm : Arms (c .target) ≡ effect same same vars kept hold (statementBy 10 c)
+    pub does-arm : cond (eqb (c .target) noTarget) Disarms (Arms (c .target)) ≡ effect same same vars kept hold (statementBy 10 c)
     unfolding statementBy
-    does-arm = arming (c .target) (eqb (c .target) noTarget) refl
+    does-arm = arming (c .target) (eqb (c .target) noTarget)
 
     pub does-move-to : moving vars (seen vars (c .left)) 2 (seen vars (c .left)) ≡ effect same same vars kept hold (statementBy 11 c)
     unfolding statementBy effect

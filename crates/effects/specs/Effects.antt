@@ -1,19 +1,18 @@
 -- Document 01, "One turn": what each statement does, by what it reads.
 -- Assumes nothing.
-use mathlib.Core.Bool.{Bool, true, false, cond, _&&_, not}
+use mathlib.Core.Bool.{Bool, true, false, cond, not}
 use mathlib.Core.List.{List}
 use Prim.Native.Nat.{ℕ, _-_}
-use lib.Dec.{eqb, ltb}
+use lib.Dec.{ltb}
 use lib.IntN.{ℤ, pos, negsuc, natAbs, _+ℤ_, _-ℤ_, _*ℤ_}
 use lib.ListN.{getD}
 use lib.Signed.{quotZ, leZ, ltZ}
 use Rattle.numbers.specs.Bits.{and32, or32, xor32}
 use Rattle.numbers.specs.Tests.{eqZ}
-use Rattle.program.specs.Variables.{inRange, literals, rangeOf}
-use Rattle.program.specs.Cells.{holdRange, slewRange, noTarget}
-use Rattle.program.specs.Statements.{Value, Literal, Variable, Condition, Always, Compare, Statement, Set, SetWith, IC, DC, BR, CL, RT, E, H, Hold, OE, Disarm, MA, MR, SL, PR}
+use Rattle.program.specs.Variables.{inRange, literals, holdRange, slewRange, rangeOf}
+use Rattle.program.specs.Statements.{Value, Literal, Variable, Operator, Plus, Minus, Times, Divided, BitAnd, BitOr, BitXor, Comparison, Equal, Unequal, Less, AtMost, Greater, AtLeast, Condition, Always, Compare, Statement, Set, SetWith, IC, DC, BR, CL, RT, E, H, Hold, OE, Disarm, MA, MR, SL, PR}
 use Rattle.effects.specs.declared.Effect.{Effect}
-use Rattle.effects.specs.declared.Effect.the-variants.{Fails, Stores, Passes, Goes, Calls, Returns, Ends, Stays, Holds, Arms, Moves, Slews, Prints}
+use Rattle.effects.specs.declared.Effect.the-variants.{Fails, Stores, Passes, Goes, Calls, Returns, Ends, Stays, Holds, Arms, Disarms, Moves, Slews, Prints}
 
 -- The value of a variable by its number.
 unfoldable pub read : List ℤ → ℕ → ℤ
@@ -27,28 +26,38 @@ storing vars v z = cond (inRange (rangeOf v (read vars 8) (read vars 9)) z) (Sto
 unfoldable pub storingResult : List ℤ → ℕ → ℤ → Effect
 storingResult vars v z = cond (inRange literals z) (storing vars v z) (Fails 101)
 
--- Turn 9, Turn 10, Text 17: the operators by their numbers; division goes toward zero.
-unfoldable pub operate : ℕ → ℤ → ℤ → ℤ
-operate o x y =
-    cond (eqb o 1) (x +ℤ y)
-    (cond (eqb o 2) (x -ℤ y)
-    (cond (eqb o 3) (x *ℤ y)
-    (cond (eqb o 4) (quotZ x y)
-    (cond (eqb o 5) (and32 x y)
-    (cond (eqb o 6) (or32 x y) (xor32 x y))))))
+-- Text 17, Turn 9, Turn 10: what each operator gives; division goes toward zero.
+unfoldable pub operate : Operator → ℤ → ℤ → ℤ
+operate Plus x y = x +ℤ y
+operate Minus x y = x -ℤ y
+operate Times x y = x *ℤ y
+operate Divided x y = quotZ x y
+operate BitAnd x y = and32 x y
+operate BitOr x y = or32 x y
+operate BitXor x y = xor32 x y
+
+-- Turn 21 (102): a divisor that is 0.
+unfoldable pub zeroDivisor : Operator → ℤ → Bool
+zeroDivisor Plus y = false
+zeroDivisor Minus y = false
+zeroDivisor Times y = false
+zeroDivisor Divided y = eqZ y (pos 0)
+zeroDivisor BitAnd y = false
+zeroDivisor BitOr y = false
+zeroDivisor BitXor y = false
 
 -- Turn 21 (102), Turn 22: a zero divisor comes before both.
-unfoldable pub storingWith : List ℤ → ℕ → ℕ → ℤ → ℤ → Effect
-storingWith vars v o x y = cond (eqb o 4 && eqZ y (pos 0)) (Fails 102) (storingResult vars v (operate o x y))
+unfoldable pub storingWith : List ℤ → ℕ → Operator → ℤ → ℤ → Effect
+storingWith vars v o x y = cond (zeroDivisor o y) (Fails 102) (storingResult vars v (operate o x y))
 
--- Text 17: the comparisons by their numbers.
-unfoldable pub compares : ℕ → ℤ → ℤ → Bool
-compares c x y =
-    cond (eqb c 1) (eqZ x y)
-    (cond (eqb c 2) (not (eqZ x y))
-    (cond (eqb c 3) (ltZ x y)
-    (cond (eqb c 4) (leZ x y)
-    (cond (eqb c 5) (ltZ y x) (leZ y x)))))
+-- Text 17: what each comparison asks.
+unfoldable pub compares : Comparison → ℤ → ℤ → Bool
+compares Equal x y = eqZ x y
+compares Unequal x y = not (eqZ x y)
+compares Less x y = ltZ x y
+compares AtMost x y = leZ x y
+compares Greater x y = ltZ y x
+compares AtLeast x y = leZ y x
 
 -- Turn 21 (104): a call with eight places kept.
 unfoldable pub calling : ℕ → ℕ → Effect
@@ -117,7 +126,7 @@ module _ {R : Type 0} (place number : R → ℕ) (vars : List ℤ) (kept hold : 
   effect H = waiting vars
   effect (Hold x) = holding hold (value x)
   effect (OE n) = Arms (place n)
-  effect Disarm = Arms noTarget
+  effect Disarm = Disarms
   effect (MA x) = moving vars (value x) 2 (value x)
   effect (MR x) = moving vars (read vars 5 +ℤ value x) 3 (value x)
   effect (SL x) = slewing (value x)

@@ -1,11 +1,12 @@
 // What each statement does, by what it reads: an effect, which changes nothing yet.
 ghost use mathlib.Core.Path.{_≡_};
 ghost use mathlib.Core.Bool.{cond};
+ghost use lib.Dec.{eqb};
 ghost use lib.IntN.{pos, _+ℤ_, _-ℤ_};
-ghost use Rattle.program.specs.Cells.{same, statementOf};
+ghost use Rattle.program.specs.Cells.{noTarget, same, operatorOf, statementOf};
 ghost use Rattle.effects.specs.Effects.{read, storing, storingResult, storingWith, calling, returning, waiting, holding, moving, slewing, effect};
 ghost use Rattle.effects.specs.Code.{seen, met, holdingBy, printingBy};
-ghost use Rattle.effects.specs.declared.Effect.the-variants.{Goes, Passes};
+ghost use Rattle.effects.specs.declared.Effect.the-variants.{Goes, Passes, Arms, Disarms};
 use crate::Effect;
 use crate::values::holds;
 use crate::values::operate;
@@ -38,7 +39,7 @@ fn storing_result(vars: &[i32], v: u32, result: i64) -> Effect
 
 // The result of an operator, if it does not divide by 0.
 fn storing_with(vars: &[i32], v: u32, operator: u8, x: i32, y: i32) -> Effect
-    ensures { λ r. ⌜ r ≡ storingWith (now (vars .entry)) v operator x y ⌝ }
+    ensures { λ r. ⌜ r ≡ storingWith (now (vars .entry)) v (operatorOf operator) x y ⌝ }
 {
     if (operator == Cell::DIVIDED) & (y == 0) {
         return Effect::Fails(Effect::ZERO_DIVISOR);
@@ -126,7 +127,7 @@ fn set(vars: &[i32], cell: Cell) -> Effect
 }
 
 fn set_with(vars: &[i32], cell: Cell) -> Effect
-    ensures { λ r. ⌜ r ≡ storingWith (now (vars .entry)) (cell .written) (cell .selector) (seen (now (vars .entry)) (cell .left)) (seen (now (vars .entry)) (cell .right)) ⌝ }
+    ensures { λ r. ⌜ r ≡ storingWith (now (vars .entry)) (cell .written) (operatorOf (cell .selector)) (seen (now (vars .entry)) (cell .left)) (seen (now (vars .entry)) (cell .right)) ⌝ }
 {
     let left = cell.left;
     let right = cell.right;
@@ -180,6 +181,15 @@ fn hold_or_wait(vars: &[i32], hold: u32, cell: Cell) -> Effect
         Operand::Literal(z) => holding(hold, z),
         Operand::Variable(v) => holding(hold, read(vars, v)),
     }
+}
+
+fn arm(target: u16) -> Effect
+    ensures { λ r. ⌜ r ≡ cond (eqb target noTarget) Disarms (Arms target) ⌝ }
+{
+    if target == Cell::NO_TARGET {
+        return Effect::Disarms;
+    }
+    Effect::Arms(target)
 }
 
 fn move_to(vars: &[i32], cell: Cell) -> Effect
@@ -237,7 +247,7 @@ pub fn effect(cell: Cell, vars: &[i32], kept: u8, hold: u32) -> Effect
         Cell::RT => returning(kept),
         Cell::E => Effect::Ends,
         Cell::H => hold_or_wait(vars, hold, cell),
-        Cell::OE => Effect::Arms(cell.target),
+        Cell::OE => arm(cell.target),
         Cell::MA => move_to(vars, cell),
         Cell::MR => move_by(vars, cell),
         Cell::SL => slew(vars, cell),

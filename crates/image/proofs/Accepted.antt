@@ -9,7 +9,7 @@ use borrow.Author.Tests.{le-ltb, eq-eqb}
 use lib.Dec.{eqb, leb}
 use lib.ListN.{length}
 use Rattle.numbers.specs.Bytes.{bytes}
-use Rattle.numbers.specs.Tests.{any}
+use Rattle.numbers.specs.Tests.{anyOf}
 use Rattle.numbers.proofs.Laws.{signed-digits}
 use Rattle.numbers.proofs.Kit.{within32}
 use Rattle.program.specs.Variables.{inRange, literals, present, readOnly, mostCells, mostLabels, mostVariables}
@@ -94,8 +94,8 @@ module _ (c : Cell) (good : GoodCell c) (xs ys : List ℕ) (k : ℕ) (e : length
       )
 
   -- A cell that was written is bad where its fields are.
-  pub cell-judged : badCell image k ≡ not (any (fitsCell image (variableCount image) c) layouts)
-  unfolding badCell any layouts
+  pub cell-judged : badCell image k ≡ not (anyOf (fitsCell image (variableCount image) c) layouts)
+  unfolding badCell anyOf layouts
   cell-judged = simp fits-cell
 
 -- ---- the cell of a statement
@@ -185,8 +185,8 @@ module _ {R : Type 0} (place number : R → ℕ) (s : List ℕ) (variables : ℕ
   disarmed = refl
 
   -- The cell of an acceptable statement has a layout.
-  pub statement-fits : (st : Statement R) → Acceptable st → any (fitsCell s variables (cellOf place number st)) layouts ≡ true
-  unfolding any layouts fitsCell cellOf jumpOf Acceptable Compares
+  pub statement-fits : (st : Statement R) → Acceptable st → anyOf (fitsCell s variables (cellOf place number st)) layouts ≡ true
+  unfolding anyOf layouts fitsCell cellOf jumpOf Acceptable Compares
   statement-fits (Set v x) h = simp (written-good v (h .0), no-selector, operand-good x (h .1), no-operand, no-target 1)
   statement-fits (SetWith v x o y) h = simp (written-good v (h .0), operator-good o (h .2), operand-good x (h .1), operand-good y (h .3), no-target 2)
   statement-fits (IC v) h = simp (written-good v h, no-selector, no-operand, no-target 3)

@@ -11,7 +11,7 @@ use native.Mathlib.Omega.{arith}
 use borrow.Author.Tests.{not-true, not-false}
 use lib.ListN.{length, getD, drop}
 use lib.Seq.{drop-cons}
-use Rattle.numbers.specs.Tests.{any, anyBelow}
+use Rattle.numbers.specs.Tests.{anyOf, anyBelow}
 
 pub or-true : (b : Bool) → (b || true) ≡ true
 or-true true = refl
@@ -61,10 +61,10 @@ same-search (suc n) f = rw (same-search n (λ k h. f k (omega arith)), f n (omeg
 
 -- A search over a list from the element i on.
 module _ {A : Type 0} (p : A → Bool) (l : List A) (i : ℕ) (d : A) (h : i < length l) where
-  pub past-one : {r : Bool} → r ≡ p (getD l i d) → r ≡ false → any p (drop (i + 1) l) ≡ any p (drop i l)
-  unfolding any
+  pub past-one : {r : Bool} → r ≡ p (getD l i d) → r ≡ false → anyOf p (drop (i + 1) l) ≡ anyOf p (drop i l)
+  unfolding anyOf
   past-one e f = rw (add-one i, drop-cons l i d h, ← e, f)
 
-  pub at-one : {r : Bool} → r ≡ p (getD l i d) → r ≡ true → true ≡ any p (drop i l)
-  unfolding any
+  pub at-one : {r : Bool} → r ≡ p (getD l i d) → r ≡ true → true ≡ anyOf p (drop i l)
+  unfolding anyOf
   at-one e f = rw (drop-cons l i d h, ← e, f)

@@ -10,7 +10,7 @@ use borrow.Author.Tests.{lt-ltb, le-ltb, ltb-false, eqb-true, not-false}
 use lib.Dec.{T, eqb, eqb-refl, eqb→eq}
 use lib.ListN.{length}
 use Rattle.numbers.specs.Bytes.{bytes, number}
-use Rattle.numbers.specs.Tests.{eqList, any}
+use Rattle.numbers.specs.Tests.{eqList, anyOf}
 use Rattle.numbers.proofs.Laws.{Bytes, there-and-back, bytes-field, field-below}
 use Rattle.program.specs.Names.{userName}
 use Rattle.program.specs.Variables.{mostCells, mostLabels, mostVariables}
@@ -88,6 +88,6 @@ module _ (s : List ℕ) (byte : Bytes s) (fit : Fitting s) where
       (same-search k (λ j l. sym (ap₂ eqList (name-key j (omega arith)) (name-key k h) ∙ eq-bytes 2 (keyAt j) (keyAt k) (key-below j) (key-below k))))
 
 -- A cell's fields fit a layout where those at its place do.
-pub layouts-fit : (s : List ℕ) (k : ℕ) → any (fitsOf s (variableCount s) (fieldsAt s k)) layouts ≡ any (fits s (16 * k)) layouts
+pub layouts-fit : (s : List ℕ) (k : ℕ) → anyOf (fitsOf s (variableCount s) (fieldsAt s k)) layouts ≡ anyOf (fits s (16 * k)) layouts
 unfolding fitsOf fieldsAt fits
 layouts-fit s k = refl

@@ -7,7 +7,7 @@ use lib.Dec.{eqb, leb, ltb}
 use lib.ListN.{length}
 use Rattle.numbers.specs.Bytes.{field}
 use Rattle.numbers.specs.Bits.{signed32}
-use Rattle.numbers.specs.Tests.{eqList, any, anyBelow, lowest}
+use Rattle.numbers.specs.Tests.{eqList, anyOf, anyBelow, lowest}
 use Rattle.program.specs.Names.{Name, userName}
 use Rattle.program.specs.Variables.{inRange, literals, present, readOnly, mostCells, mostLabels, mostVariables}
 use Rattle.program.specs.Cells.{noTarget}
@@ -98,7 +98,7 @@ fits s place u =
 
 -- Refusals 14, Refusals 26: some cell has none of the layouts.
 unfoldable pub badCell : List ℕ → ℕ → Bool
-badCell s k = not (any (fits s (16 * k)) layouts)
+badCell s k = not (anyOf (fits s (16 * k)) layouts)
 
 unfoldable pub badCells : List ℕ → Bool
 badCells s = anyBelow (cellCount s) (badCell s)

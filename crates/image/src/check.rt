@@ -2,7 +2,7 @@
 ghost use mathlib.Core.Path.{_≡_};
 ghost use mathlib.Core.Bool.{false};
 ghost use Prim.Native.Nat.{_+_};
-ghost use Rattle.numbers.specs.Tests.{any, anyBelow};
+ghost use Rattle.numbers.specs.Tests.{anyOf, anyBelow};
 ghost use Rattle.image.specs.Layout.{labelCount, variableCount};
 ghost use Rattle.image.specs.Check.{badLength, badEdition, badTrailer, layouts, goodWritten, goodSelector, goodOperand, goodTarget, badCell, badCells, badName, badTarget, badStart, badRecords, checked};
 ghost use Rattle.image.specs.Code.{useOf, fieldsAt, fitsOf, recordPlaceOf, keyOf, repeatedKey, targetOf, labelled, badKey, badTargetOf, literalBits, badStartOf};
@@ -160,7 +160,7 @@ fn good_target(s: &[u8], operation: u8, used: bool, target: u16) -> bool
     if !used {
         return target == 0;
     }
-    if (operation == Cell::OE) & (target == Cell::NO_HANDLER) {
+    if (operation == Cell::OE) & (target == Cell::NO_TARGET) {
         return true;
     }
     is_label_target(s, target)
@@ -205,7 +205,7 @@ fn fits(s: &[u8], variables: u16, f: Fields, u: Layout) -> bool
 }
 
 fn has_layout(s: &[u8], f: Fields) -> bool
-    ensures { λ r. ⌜ r ≡ any (fitsOf (now (s .entry)) (variableCount (now (s .entry))) f) layouts ⌝ }
+    ensures { λ r. ⌜ r ≡ anyOf (fitsOf (now (s .entry)) (variableCount (now (s .entry))) f) layouts ⌝ }
 {
     let variables = crate::variable_count(s);
     let table = LAYOUTS;

@@ -9,7 +9,7 @@ use borrow.Author.Tests.{not-false, ltb-false, lt-ltb, le-ltb}
 use lib.Dec.{T, eqb, ltb, lit<}
 use lib.ListN.{length}
 use Rattle.numbers.specs.Bytes.{field}
-use Rattle.numbers.specs.Tests.{any, anyBelow, lowest, eqList}
+use Rattle.numbers.specs.Tests.{anyOf, anyBelow, lowest, eqList}
 use Rattle.program.specs.Names.{Name, userName}
 use Rattle.program.specs.Variables.{inRange, literals, mostCells, mostLabels, mostVariables}
 use Rattle.image.specs.Layout.{imageLength, firstLabelPlace, wholeLength, cellCount, labelCount, variableCount, labelPlace, variablePlace, startValue, nameAt}
@@ -21,7 +21,7 @@ pub record Accepted (s : List ℕ) : Type 0 where
   pub label-name : (k : ℕ) → k < labelCount s → T (userName (nameAt s (labelPlace s k)))
   pub variable-name : (k : ℕ) → k < variableCount s → T (userName (nameAt s (variablePlace s k)))
   pub start-value : (k : ℕ) → k < variableCount s → T (inRange literals (startValue s k))
-  pub layout : (k : ℕ) → k < cellCount s → T (any (fits s (16 * k)) layouts)
+  pub layout : (k : ℕ) → k < cellCount s → T (anyOf (fits s (16 * k)) layouts)
   pub few-cells : cellCount s ≤ 256
   pub few-labels : labelCount s ≤ 160
   pub few-variables : variableCount s ≤ 32
@@ -61,9 +61,9 @@ module _ (s : List ℕ) where
       let r : Bool = inRange literals (startValue s k) in
       true-is r (not-false r (neither (not (eqb (field 2 (variablePlace s k + 2) s) 0)) (not r) e .1))
 
-  fitted : (k : ℕ) → badCell s k ≡ false → T (any (fits s (16 * k)) layouts)
+  fitted : (k : ℕ) → badCell s k ≡ false → T (anyOf (fits s (16 * k)) layouts)
   unfolding badCell
-  fitted k e = true-is (any (fits s (16 * k)) layouts) (not-false (any (fits s (16 * k)) layouts) e)
+  fitted k e = true-is (anyOf (fits s (16 * k)) layouts) (not-false (anyOf (fits s (16 * k)) layouts) e)
 
   few : badTrailer s ≡ false → (cellCount s ≤ 256) × (labelCount s ≤ 160) × (variableCount s ≤ 32)
   unfolding badTrailer mostCells mostLabels mostVariables

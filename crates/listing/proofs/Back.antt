@@ -6,13 +6,13 @@ use mathlib.Core.List.{List, [], _∷_, _++_, flatMap}
 use Prim.Native.Nat.{ℕ, zero, suc, _+_, _≤_, _<_}
 use native.Mathlib.Omega.{arith}
 use lib.Dec.{T, eqb}
-use Rattle.numbers.specs.Tests.{all, any, listed, eqList}
+use Rattle.numbers.specs.Tests.{allOf, anyOf, listed, eqList}
 use Rattle.numbers.proofs.Laws.{Bytes}
 use Rattle.program.specs.Names.{Name}
 use Rattle.program.proofs.Keys.{eqList-eq}
 use Rattle.text.specs.Lines.{lines}
 use Rattle.text.specs.Forms.{Line, Label}
-use Rattle.text.specs.Faults.{undeclared, readOnlyWritten, fault, firstFault, said}
+use Rattle.text.specs.Faults.{undeclared, readOnlyWritten, fault, textFaults, firstFault, said}
 use Rattle.image.specs.Layout.{cellCount, labelCount, variableCount, labelTarget}
 use Rattle.image.specs.Check.{checked}
 use Rattle.translation.specs.Images as I
@@ -33,9 +33,9 @@ use Rattle.listing.proofs.Size.{listing-fits}
 use Rattle.listing.proofs.Image.{listing-image}
 
 -- Names that are new one after the other: each differs from those before.
-new-listed : (before : List Name) (f : ℕ → Name) (from n : ℕ) → ((k : ℕ) → from ≤ k → k < from + n → any (eqList (f k)) before ≡ false)
+new-listed : (before : List Name) (f : ℕ → Name) (from n : ℕ) → ((k : ℕ) → from ≤ k → k < from + n → anyOf (eqList (f k)) before ≡ false)
     → ((j k : ℕ) → j < k → k < from + n → f k ≡ f j → ⊥) → New before (listed from n f)
-unfolding listed any
+unfolding listed anyOf
 new-listed before f from zero h g = tt
 new-listed before f from (suc n) h g = (
   h from (omega arith) (omega arith),
@@ -50,7 +50,7 @@ module _ (s : List ℕ) (a : Accepted s) (r : Recorded s) where
   xs = listedLines s
 
   all-new : New [] (declaredBy xs)
-  unfolding any
+  unfolding anyOf
   all-new =
       subst (New []) (sym (declared-lines s r))
       (new-both [] (listed 0 (variableCount s) (nameOfVariable s)) (listed 0 (labelCount s) (nameOfLabel s))
@@ -68,16 +68,16 @@ module _ (s : List ℕ) (a : Accepted s) (r : Recorded s) where
     variables = omega (arith, variables-counted s r, a .few-variables);
   }
 
-  labels-fine : (t : ℕ) → T (all (fine xs) (labelsSay s t))
-  unfolding labelsSay labelSays all undeclared readOnlyWritten
+  labels-fine : (t : ℕ) → T (allOf (fine xs) (labelsSay s t))
+  unfolding labelsSay labelSays allOf undeclared readOnlyWritten
   labels-fine t = all-flat (fine xs) (labelSays s t) (numbers 0 (labelCount s)) (λ k. go (eqb (labelTarget s k) t) (nameOfLabel s k))
     where
-      go : (b : Bool) (w : Name) → T (all (fine xs) (cond b (Label w ∷ []) []))
+      go : (b : Bool) (w : Name) → T (allOf (fine xs) (cond b (Label w ∷ []) []))
       go true w = tt
       go false w = tt
 
-  cells-fine : (from n : ℕ) → from + n ≤ cellCount s → T (all (fine xs) (flatMap (cellSays s) (numbers from n)))
-  unfolding flatMap listed cellSays all
+  cells-fine : (from n : ℕ) → from + n ≤ cellCount s → T (allOf (fine xs) (flatMap (cellSays s) (numbers from n)))
+  unfolding flatMap listed cellSays allOf
   cells-fine from zero h = tt
   cells-fine from (suc n) h =
       let d = cell-declared s a r from (omega arith) in
@@ -86,16 +86,16 @@ module _ (s : List ℕ) (a : Accepted s) (r : Recorded s) where
       (all-append (fine xs) (labelsSay s from) (cellLine s from ∷ []) (labels-fine from) (rw (d, w) tt))
       (cells-fine (suc from) n (omega arith))
 
-  all-fine : T (all (fine xs) xs)
+  all-fine : T (allOf (fine xs) xs)
   unfolding variableSays undeclared readOnlyWritten
   all-fine =
-      subst (λ (ys : List Line). T (all (fine xs) ys)) (sym (front-body s))
+      subst (λ (ys : List Line). T (allOf (fine xs) ys)) (sym (front-body s))
       (all-append (fine xs) (front s) (body s) (all-listed (fine xs) 0 (variableCount s) (variableSays s) (λ k. tt))
       (all-append (fine xs) (flatMap (cellSays s) (numbers 0 (cellCount s))) (labelsSay s (cellCount s)) (cells-fine 0 (cellCount s) (omega arith)) (labels-fine (cellCount s))))
 
 -- No line of the listing has a fault.
 pub listing-faultless : (s : List ℕ) → checked s ≡ 0 → firstFault (listing s) ≡ fault 0 0
-unfolding firstFault said flatMap
+unfolding firstFault textFaults said flatMap
 listing-faultless s e =
     let a = accepted s e in
     let r = recorded s e in
@@ -103,7 +103,7 @@ listing-faultless s e =
     no-fault-from (said (listing s)) [] 1 (lines (listing s)) (listing-clear s e)
     (subst (λ (ys : List Line). New [] (declaredBy ys)) h (all-new s a r))
     (subst Few h (all-few s a r))
-    (subst (λ (ys : List Line). T (all (fine ys) ys)) h (all-fine s a r))
+    (subst (λ (ys : List Line). T (allOf (fine ys) ys)) h (all-fine s a r))
 
 pub listing-accepted : (s : List ℕ) → checked s ≡ 0 → I.accepted (listing s) ≡ true
 unfolding I.accepted

@@ -11,7 +11,7 @@ use lib.Dec.{T, eqb, leb, ltb, leb→le, ltb→lt, eqb→eq}
 use lib.ListN.{getD}
 use Rattle.numbers.specs.Bytes.{ascii, field}
 use Rattle.numbers.specs.Bits.{signed32}
-use Rattle.numbers.specs.Tests.{all, any, anyBelow, firstBelow, eqList, numbered}
+use Rattle.numbers.specs.Tests.{allOf, anyOf, anyBelow, firstBelow, eqList, numbered}
 use Rattle.program.specs.Names.{variableNames, paperVariable, userName}
 use Rattle.program.specs.Variables.{inRange, literals, present, readOnly}
 use Rattle.program.specs.Statements.{OE, Disarm}
@@ -34,14 +34,14 @@ module _ {A : Type 0} (p : A → Bool) (Q : Type 0) where
   Each [] = Unit {0}
   Each (x ∷ xs) = (T (p x) → Q) × Each xs
 
-  pub from-any : (xs : List A) → Each xs → T (any p xs) → Q
-  unfolding any
+  pub from-any : (xs : List A) → Each xs → T (anyOf p xs) → Q
+  unfolding anyOf
   from-any [] e t = absurd t
-  from-any (x ∷ xs) e t = ⊎-elim (e .0) (from-any xs (e .1)) (either (p x) (any p xs) t)
+  from-any (x ∷ xs) e t = ⊎-elim (e .0) (from-any xs (e .1)) (either (p x) (anyOf p xs) t)
 
 -- The paper's names are names of variables.
 paper-named : (i : ℕ) → i < 20 → T (F.variableName (getD variableNames i []))
-unfolding variableNames F.variableName paperVariable ascii all numbered eqList
+unfolding variableNames F.variableName paperVariable ascii allOf numbered eqList
 paper-named i h = all-at F.variableName variableNames [] i tt h
 
 module _ (s : List ℕ) (a : Accepted s) where
@@ -247,7 +247,7 @@ module _ (s : List ℕ) (a : Accepted s) (k : ℕ) where
   said-PR t = let f = fit (uses 14 false 0 true false false) t in by 14 (f .operation) (left-sound (f .left))
 
   -- A cell that has one of the layouts.
-  pub sayable : T (any (fits s (16 * k)) layouts) → Sayable (statementNamed s (statementOf (cellAt s k)))
+  pub sayable : T (anyOf (fits s (16 * k)) layouts) → Sayable (statementNamed s (statementOf (cellAt s k)))
   unfolding layouts
   sayable t =
       from-any (fits s (16 * k)) Said layouts

@@ -7,15 +7,15 @@ use Prim.Native.Nat.{ℕ, suc, _+_, _≤_}
 use native.Mathlib.Omega.{arith}
 use borrow.Author.Tests.{lt-leb}
 use lib.Dec.{T, leb}
-use Rattle.numbers.specs.Tests.{all, any, eqList, lowest}
+use Rattle.numbers.specs.Tests.{allOf, anyOf, eqList, lowest}
+use Rattle.numbers.proofs.Lists.{flat-append}
 use Rattle.program.specs.Names.{Name}
 use Rattle.program.specs.Variables.{mostCells, mostLabels, mostVariables}
 use Rattle.program.proofs.Keys.{both}
 use Rattle.text.specs.Forms.{Line, Blank, Label, Declared, Acts}
-use Rattle.text.specs.Faults.{longLine, badForm, bigLiteral, reservedName, heard, declares, repeated, tooMany, undeclared, readOnlyWritten, faults, fault, faultFrom, count, makesCell, makesLabel, makesVariable}
+use Rattle.text.specs.Faults.{longLine, badForm, bigLiteral, reservedName, heard, declares, repeated, tooMany, undeclared, readOnlyWritten, faults, fault, firstFrom, faultsFrom, howMany, makesCell, makesLabel, makesVariable}
 use Rattle.listing.proofs.Kit.{is-false, neither}
 use Rattle.listing.proofs.Clear.{faulty}
-use Rattle.listing.proofs.Lists.{flat-append}
 use Rattle.listing.proofs.Counted.{count-append}
 use Rattle.listing.proofs.Declaring.{declaredBy, declared-any}
 
@@ -23,7 +23,7 @@ use Rattle.listing.proofs.Declaring.{declaredBy, declared-any}
 
 abbrev pub New : List Name → List Name → Type 0
 New before [] = Unit {0}
-New before (w ∷ ws) = (any (eqList w) before ≡ false) × New (before ++ (w ∷ [])) ws
+New before (w ∷ ws) = (anyOf (eqList w) before ≡ false) × New (before ++ (w ∷ [])) ws
 
 pub new-both : (before vs ws : List Name) → New before vs → New (before ++ vs) ws → New before (vs ++ ws)
 new-both before [] ws h g = subst (λ (b : List Name). New b ws) (append-nil before) g
@@ -33,7 +33,7 @@ new-both before (v ∷ vs) ws h g =
 -- A line whose names are new repeats none.
 module _ (before : List Line) where
   not-repeated : (x : Line) (ws : List Name) → New (declaredBy before) (declares x ++ ws) → repeated before x ≡ false
-  unfolding repeated declares any
+  unfolding repeated declares anyOf
   not-repeated Blank ws h = refl
   not-repeated (Label w) ws h = rw (declared-any w before, h .0)
   not-repeated (Declared w z) ws h = rw (declared-any w before, h .0)
@@ -49,17 +49,17 @@ module _ (before : List Line) where
 -- ---- limits
 
 pub record Few (xs : List Line) : Type 0 where
-  pub cells : count makesCell xs ≤ 256
-  pub labels : count makesLabel xs ≤ 160
-  pub variables : count makesVariable xs ≤ 32
+  pub cells : howMany makesCell xs ≤ 256
+  pub labels : howMany makesLabel xs ≤ 160
+  pub variables : howMany makesVariable xs ≤ 32
 
 room : (b : Bool) (most n m : ℕ) → n + cond b (suc m) m ≤ most → (b && leb most n) ≡ false
 room true most n m h = lt-leb most n (omega arith)
 room false most n m h = refl
 
-has-room : (p : Line → Bool) (most : ℕ) (before : List Line) (x : Line) (xs : List Line) → count p (before ++ (x ∷ xs)) ≤ most → (p x && leb most (count p before)) ≡ false
-unfolding count
-has-room p most before x xs h = room (p x) most (count p before) (count p xs) (subst (λ (n : ℕ). n ≤ most) (count-append p before (x ∷ xs)) h)
+has-room : (p : Line → Bool) (most : ℕ) (before : List Line) (x : Line) (xs : List Line) → howMany p (before ++ (x ∷ xs)) ≤ most → (p x && leb most (howMany p before)) ≡ false
+unfolding howMany
+has-room p most before x xs h = room (p x) most (howMany p before) (howMany p xs) (subst (λ (n : ℕ). n ≤ most) (count-append p before (x ∷ xs)) h)
 
 not-many : (before : List Line) (x : Line) (xs : List Line) → Few (before ++ (x ∷ xs)) → tooMany before x ≡ false
 unfolding tooMany mostCells mostLabels mostVariables
@@ -83,16 +83,16 @@ no-faults text before l c r m f =
     let e = both (not (undeclared text (heard l))) (not (readOnlyWritten (heard l))) f in
     rw (a .0, b .0, d .0, d .1, r, m, is-false (undeclared text (heard l)) (e .0), is-false (readOnlyWritten (heard l)) (e .1))
 
-pub no-fault-from : (text before : List Line) (line : ℕ) (ls : List (List ℕ)) → T (all (λ l. not (faulty l)) ls)
-    → New (declaredBy before) (declaredBy (map heard ls)) → Few (before ++ map heard ls) → T (all (fine text) (map heard ls))
-    → faultFrom text line before ls ≡ fault 0 0
-unfolding all faultFrom flatMap
+pub no-fault-from : (text before : List Line) (line : ℕ) (ls : List (List ℕ)) → T (allOf (λ l. not (faulty l)) ls)
+    → New (declaredBy before) (declaredBy (map heard ls)) → Few (before ++ map heard ls) → T (allOf (fine text) (map heard ls))
+    → firstFrom line (faultsFrom text before ls) ≡ fault 0 0
+unfolding allOf firstFrom faultsFrom flatMap
 no-fault-from text before line [] c n f w = refl
 no-fault-from text before line (l ∷ ls) c n f w =
     let x = heard l in
     let xs = map heard ls in
-    let p = both (not (faulty l)) (all (λ k. not (faulty k)) ls) c in
-    let q = both (fine text x) (all (fine text) xs) w in
+    let p = both (not (faulty l)) (allOf (λ k. not (faulty k)) ls) c in
+    let q = both (fine text x) (allOf (fine text) xs) w in
     let e = no-faults text before l (p .0) (not-repeated before x (declaredBy xs) n) (not-many before x xs f) (q .0) in
     rw e
     (no-fault-from text (before ++ (x ∷ [])) (suc line) ls (p .1) (new-behind before x (declaredBy xs) n)

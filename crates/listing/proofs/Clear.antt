@@ -6,7 +6,7 @@ use mathlib.Core.List.{List, [], _∷_, _++_, map, flatMap}
 use mathlib.Core.Option.{none, some}
 use Prim.Native.Nat.{ℕ, zero, suc}
 use lib.Dec.{T, eqb}
-use Rattle.numbers.specs.Tests.{all, listed}
+use Rattle.numbers.specs.Tests.{allOf, listed}
 use Rattle.program.proofs.Keys.{both, both-of}
 use Rattle.text.specs.Lines.{lines}
 use Rattle.text.specs.Forms.{Line, Blank, Label, Declared, Acts, reading}
@@ -38,39 +38,39 @@ clear l t = go (faulty l) (elim (reading l) [ none ↦ Blank | some x ↦ x ]) t
   go false x t = tt
 
 module _ {A : Type 0} (p : A → Bool) where
-  pub all-listed : (from n : ℕ) (f : ℕ → A) → ((k : ℕ) → T (p (f k))) → T (all p (listed from n f))
-  unfolding all listed
+  pub all-listed : (from n : ℕ) (f : ℕ → A) → ((k : ℕ) → T (p (f k))) → T (allOf p (listed from n f))
+  unfolding allOf listed
   all-listed from zero f h = tt
-  all-listed from (suc n) f h = both-of (p (f from)) (all p (listed (suc from) n f)) (h from) (all-listed (suc from) n f h)
+  all-listed from (suc n) f h = both-of (p (f from)) (allOf p (listed (suc from) n f)) (h from) (all-listed (suc from) n f h)
 
-  pub all-flat : (g : ℕ → List A) (ks : List ℕ) → ((k : ℕ) → T (all p (g k))) → T (all p (flatMap g ks))
-  unfolding all flatMap
+  pub all-flat : (g : ℕ → List A) (ks : List ℕ) → ((k : ℕ) → T (allOf p (g k))) → T (allOf p (flatMap g ks))
+  unfolding allOf flatMap
   all-flat g [] h = tt
   all-flat g (k ∷ ks) h = all-append p (g k) (flatMap g ks) (h k) (all-flat g ks h)
 
-all-map : {A : Type 0} (p : Line → Bool) (f : A → Line) (xs : List A) → T (all p (map f xs)) → T (all (λ x. p (f x)) xs)
-unfolding all
+all-map : {A : Type 0} (p : Line → Bool) (f : A → Line) (xs : List A) → T (allOf p (map f xs)) → T (allOf (λ x. p (f x)) xs)
+unfolding allOf
 all-map p f [] h = tt
-all-map p f (x ∷ xs) h = let c = both (p (f x)) (all p (map f xs)) h in both-of (p (f x)) (all (λ y. p (f y)) xs) (c .0) (all-map p f xs (c .1))
+all-map p f (x ∷ xs) h = let c = both (p (f x)) (allOf p (map f xs)) h in both-of (p (f x)) (allOf (λ y. p (f y)) xs) (c .0) (all-map p f xs (c .1))
 
 module _ (s : List ℕ) where
-  label-speaks : (target k : ℕ) → T (all speaking (labelSays s target k))
-  unfolding labelSays all
+  label-speaks : (target k : ℕ) → T (allOf speaking (labelSays s target k))
+  unfolding labelSays allOf
   label-speaks target k = go (eqb (labelTarget s k) target) where
-    go : (t : Bool) → T (all speaking (cond t (Label (nameAt s (labelPlace s k)) ∷ []) []))
+    go : (t : Bool) → T (allOf speaking (cond t (Label (nameAt s (labelPlace s k)) ∷ []) []))
     go true = tt
     go false = tt
 
-  labels-speak : (target : ℕ) → T (all speaking (labelsSay s target))
+  labels-speak : (target : ℕ) → T (allOf speaking (labelsSay s target))
   unfolding labelsSay
   labels-speak target = all-flat speaking (labelSays s target) (listed 0 (labelCount s) (λ k. k)) (label-speaks target)
 
-  cell-speaks : (k : ℕ) → T (all speaking (cellSays s k))
-  unfolding cellSays all
+  cell-speaks : (k : ℕ) → T (allOf speaking (cellSays s k))
+  unfolding cellSays allOf
   cell-speaks k = all-append speaking (labelsSay s k) _ (labels-speak k) tt
 
   -- Every line that an image stands for says something.
-  pub lines-speak : T (all speaking (listedLines s))
+  pub lines-speak : T (allOf speaking (listedLines s))
   unfolding listedLines variableSays
   lines-speak =
       let xs = listed 0 (variableCount s) (variableSays s) in
@@ -79,8 +79,8 @@ module _ (s : List ℕ) where
       all-append speaking xs (ys ++ zs) (all-listed speaking 0 (variableCount s) (variableSays s) (λ k. tt))
       (all-append speaking ys zs (all-flat speaking (cellSays s) (listed 0 (cellCount s) (λ k. k)) cell-speaks) (labels-speak (cellCount s)))
 
-pub listing-clear : (s : List ℕ) → checked s ≡ 0 → T (all (λ l. not (faulty l)) (lines (listing s)))
+pub listing-clear : (s : List ℕ) → checked s ≡ 0 → T (allOf (λ l. not (faulty l)) (lines (listing s)))
 unfolding said
 listing-clear s e =
-    let t : T (all speaking (said (listing s))) = subst (λ (xs : List Line). T (all speaking xs)) (sym (listing-said s e)) (lines-speak s) in
+    let t : T (allOf speaking (said (listing s))) = subst (λ (xs : List Line). T (allOf speaking xs)) (sym (listing-said s e)) (lines-speak s) in
     all-then (λ l. speaking (heard l)) (λ l. not (faulty l)) clear (lines (listing s)) (all-map speaking heard (lines (listing s)) t)

@@ -7,7 +7,7 @@ use Prim.Native.Nat.{ℕ, suc, _+_}
 use native.Mathlib.Omega.{arith}
 use lib.ListN.{length}
 use Rattle.text.specs.Forms.{Line}
-use Rattle.text.specs.Faults.{count, makesCell, makesLabel, makesVariable}
+use Rattle.text.specs.Faults.{howMany, makesCell, makesLabel, makesVariable}
 use Rattle.image.specs.Layout.{cellCount, labelCount, variableCount}
 use Rattle.listing.specs.Listed.{variableSays, labelsSay, listedLines}
 use Rattle.listing.proofs.Lists.{length-flat, flat-none}
@@ -18,8 +18,8 @@ use Rattle.listing.proofs.Order.{labelLine, cellLine, body, front, fron
 abbrev one : (Line → Bool) → Line → List ℕ
 one p x = cond (p x) (0 ∷ []) []
 
-pub count-one : (p : Line → Bool) (xs : List Line) → count p xs ≡ length (flatMap (one p) xs)
-unfolding count flatMap
+pub count-one : (p : Line → Bool) (xs : List Line) → howMany p xs ≡ length (flatMap (one p) xs)
+unfolding howMany flatMap
 count-one p [] = refl
 count-one p (x ∷ xs) = rw (count-one p xs) (go (p x) (flatMap (one p) xs))
   where
@@ -27,28 +27,28 @@ count-one p (x ∷ xs) = rw (count-one p xs) (go (p x) (flatMap (one p) xs))
     go true l = refl
     go false l = refl
 
-pub count-append : (p : Line → Bool) (xs ys : List Line) → count p (xs ++ ys) ≡ count p xs + count p ys
-unfolding count
+pub count-append : (p : Line → Bool) (xs ys : List Line) → howMany p (xs ++ ys) ≡ howMany p xs + howMany p ys
+unfolding howMany
 count-append p [] ys = omega arith
-count-append p (x ∷ xs) ys = rw (count-append p xs ys) (go (p x) (count p xs) (count p ys))
+count-append p (x ∷ xs) ys = rw (count-append p xs ys) (go (p x) (howMany p xs) (howMany p ys))
   where
     go : (b : Bool) (m n : ℕ) → cond b (suc (m + n)) (m + n) ≡ cond b (suc m) m + n
     go true m n = omega arith
     go false m n = refl
 
 -- None of the labels of a target makes a cell.
-pub labels-no-cell : (s : List ℕ) (t : ℕ) → count makesCell (labelsSay s t) ≡ 0
+pub labels-no-cell : (s : List ℕ) (t : ℕ) → howMany makesCell (labelsSay s t) ≡ 0
 unfolding makesCell
 labels-no-cell s t = count-one makesCell (labelsSay s t) ∙ ap length (no-label s (one makesCell) (λ w. refl) t)
 
 module _ (s : List ℕ) (r : Recorded s) where
-  count-both : (p : Line → Bool) → count p (listedLines s) ≡ length (flatMap (one p) (front s)) + length (flatMap (one p) (body s))
+  count-both : (p : Line → Bool) → howMany p (listedLines s) ≡ length (flatMap (one p) (front s)) + length (flatMap (one p) (body s))
   count-both p =
       let a = count-one p (front s) in
       let b = count-one p (body s) in
-      ap (count p) (front-body s) ∙ count-append p (front s) (body s) ∙ omega arith
+      ap (howMany p) (front-body s) ∙ count-append p (front s) (body s) ∙ omega arith
 
-  pub cells-counted : count makesCell (listedLines s) ≡ cellCount s
+  pub cells-counted : howMany makesCell (listedLines s) ≡ cellCount s
   unfolding makesCell variableSays
   cells-counted =
       let f = one makesCell in
@@ -58,7 +58,7 @@ module _ (s : List ℕ) (r : Recorded s) where
       let d = length-flat (λ k. f (cellLine s k)) 0 (cellCount s) (λ k. refl) in
       count-both makesCell ∙ omega arith
 
-  pub labels-counted : count makesLabel (listedLines s) ≡ labelCount s
+  pub labels-counted : howMany makesLabel (listedLines s) ≡ labelCount s
   unfolding makesLabel variableSays
   labels-counted =
       let f = one makesLabel in
@@ -68,7 +68,7 @@ module _ (s : List ℕ) (r : Recorded s) where
       let d = length-flat (λ k. f (labelLine s k)) 0 (labelCount s) (λ k. refl) in
       count-both makesLabel ∙ omega arith
 
-  pub variables-counted : count makesVariable (listedLines s) ≡ variableCount s
+  pub variables-counted : howMany makesVariable (listedLines s) ≡ variableCount s
   unfolding makesVariable variableSays
   variables-counted =
       let f = one makesVariable in

@@ -2,12 +2,12 @@
 -- Assumes nothing.
 use mathlib.Core.Path.{_≡_, refl, ap, _∙_}
 use mathlib.Core.Bool.{Bool, _&&_, not}
-use mathlib.Core.List.{List, [], _∷_, _++_, append-assoc}
+use mathlib.Core.List.{List, [], _∷_, _++_, append-assoc, flatMap}
 use Prim.Native.Nat.{ℕ}
 use lib.Dec.{T, eqb}
-use Rattle.numbers.specs.Tests.{all, joined}
+use Rattle.numbers.specs.Tests.{allOf}
 use Rattle.program.proofs.Keys.{both}
-use Rattle.text.specs.Lines.{before, lines}
+use Rattle.text.specs.Lines.{ontoFirstLine, lines}
 use Rattle.listing.specs.Listing.{line}
 use Rattle.listing.proofs.Kit.{is-false}
 
@@ -15,24 +15,24 @@ use Rattle.listing.proofs.Kit.{is-false}
 abbrev pub inLine : ℕ → Bool
 inLine b = not (eqb b 10) && not (eqb b 13)
 
-pub lines-cut : (l rest : List ℕ) → T (all inLine l) → lines (l ++ (10 ∷ rest)) ≡ l ∷ lines rest
-unfolding lines before all
+pub lines-cut : (l rest : List ℕ) → T (allOf inLine l) → lines (l ++ (10 ∷ rest)) ≡ l ∷ lines rest
+unfolding lines ontoFirstLine allOf
 lines-cut [] rest h = refl
 lines-cut (b ∷ l) rest h =
-    let c = both (inLine b) (all inLine l) h in
+    let c = both (inLine b) (allOf inLine l) h in
     let d = both (not (eqb b 10)) (not (eqb b 13)) (c .0) in
     let e = is-false (eqb b 10) (d .0) in
     let f = is-false (eqb b 13) (d .1) in
     rw (e, f, lines-cut l rest (c .1))
 
 -- The first line of a text that starts with a printed line, and what is left.
-pub lines-line : (l rest : List ℕ) → T (all inLine l) → lines (line l ++ rest) ≡ l ∷ lines rest
+pub lines-line : (l rest : List ℕ) → T (allOf inLine l) → lines (line l ++ rest) ≡ l ∷ lines rest
 unfolding line
 lines-line l rest h = rw append-assoc (lines-cut l rest h)
 
-pub lines-joined : (ls : List (List ℕ)) → T (all (all inLine) ls) → lines (joined line ls) ≡ ls
-unfolding lines joined all
-lines-joined [] h = refl
-lines-joined (l ∷ ls) h =
-    let c = both (all inLine l) (all (all inLine) ls) h in
-    lines-line l (joined line ls) (c .0) ∙ ap (λ (more : List (List ℕ)). l ∷ more) (lines-joined ls (c .1))
+pub lines-flat : (ls : List (List ℕ)) → T (allOf (allOf inLine) ls) → lines (flatMap line ls) ≡ ls
+unfolding lines flatMap allOf
+lines-flat [] h = refl
+lines-flat (l ∷ ls) h =
+    let c = both (allOf inLine l) (allOf (allOf inLine) ls) h in
+    lines-line l (flatMap line ls) (c .0) ∙ ap (λ (more : List (List ℕ)). l ∷ more) (lines-flat ls (c .1))

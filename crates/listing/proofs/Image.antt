@@ -4,15 +4,15 @@ use mathlib.Core.Path.{_≡_, refl, sym, ap, ap₂, _∙_}
 use mathlib.Core.List.{List, _++_, flatMap, append-nil}
 use Prim.Native.Nat.{ℕ, _+_, _*_}
 use native.Mathlib.Nat.{zero-add, add-assoc}
-use Rattle.numbers.specs.Tests.{joined}
 use Rattle.numbers.proofs.Laws.{Bytes}
+use Rattle.numbers.proofs.Lists.{flat-append}
 use Rattle.text.specs.Forms.{Line}
 use Rattle.image.specs.Layout.{cellBytes, labelBytes, cellCount, labelCount, variableCount, labelPlace, variablePlace}
 use Rattle.image.specs.Check.{checked}
 use Rattle.translation.specs.Images.{cellPart, labelPart, variablePart, imageOf, image}
 use Rattle.listing.specs.Listing.{listing}
 use Rattle.listing.specs.Listed.{variableSays, listedLines}
-use Rattle.listing.proofs.Lists.{joined-flat, flat-append, flat-none}
+use Rattle.listing.proofs.Lists.{flat-none}
 use Rattle.listing.proofs.Accepted.{Accepted, accepted}
 use Rattle.listing.proofs.Recorded.{Recorded, recorded, nameOfLabel}
 use Rattle.listing.proofs.Order.{labelLine, cellLine, body, front, front-body, of-labels, only-cells, only-variables}
@@ -26,10 +26,10 @@ module _ (s : List ℕ) (byte : Bytes s) (a : Accepted s) (r : Recorded s) where
   abbrev xs : List Line
   xs = listedLines s
 
-  both-parts : (f : Line → List ℕ) → joined f xs ≡ flatMap f (front s) ++ flatMap f (body s)
-  both-parts f = joined-flat f xs ∙ ap (flatMap f) (front-body s) ∙ flat-append f (front s) (body s)
+  both-parts : (f : Line → List ℕ) → flatMap f xs ≡ flatMap f (front s) ++ flatMap f (body s)
+  both-parts f = ap (flatMap f) (front-body s) ∙ flat-append f (front s) (body s)
 
-  cells : joined (cellPart xs) xs ≡ part s (16 * cellCount s) 0
+  cells : flatMap (cellPart xs) xs ≡ part s (16 * cellCount s) 0
   unfolding cellPart variableSays
   cells =
       let f = cellPart xs in
@@ -40,7 +40,7 @@ module _ (s : List ℕ) (byte : Bytes s) (a : Accepted s) (r : Recorded s) where
       ∙ pieces s (λ k. f (cellLine s k)) 16 0 (cellCount s)
       (λ k l. ap cellBytes (cell-again s a r k l) ∙ cell-part s byte a r k l ∙ ap (part s 16) (sym (zero-add (16 * k)))))
 
-  labels : joined (labelPart xs) xs ≡ part s (4 * labelCount s) (16 * cellCount s)
+  labels : flatMap (labelPart xs) xs ≡ part s (4 * labelCount s) (16 * cellCount s)
   unfolding labelPart variableSays labelPlace
   labels =
       let f = labelPart xs in
@@ -51,7 +51,7 @@ module _ (s : List ℕ) (byte : Bytes s) (a : Accepted s) (r : Recorded s) where
       ∙ pieces s (λ k. f (labelLine s k)) 4 (16 * cellCount s) (labelCount s)
       (λ k l. ap (labelBytes (nameOfLabel s k)) (label-placed s r k l) ∙ label-part s byte a r k l))
 
-  variables : joined variablePart xs ≡ part s (8 * variableCount s) (16 * cellCount s + 4 * labelCount s)
+  variables : flatMap variablePart xs ≡ part s (8 * variableCount s) (16 * cellCount s + 4 * labelCount s)
   unfolding variablePart variableSays variablePlace
   variables =
       let f = variablePart in

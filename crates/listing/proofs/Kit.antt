@@ -10,7 +10,7 @@ use native.Mathlib.Omega.{arith}
 use borrow.Author.Tests.{ltb-true, ltb-false}
 use lib.Dec.{T, eqb, ltb}
 use lib.ListN.{length, getD}
-use Rattle.numbers.specs.Tests.{all, any, anyBelow, firstBelow, eqList, numbered}
+use Rattle.numbers.specs.Tests.{allOf, anyOf, anyBelow, firstBelow, eqList, numbered}
 use Rattle.program.proofs.Keys.{both, both-of, either, eqList-eq}
 
 -- A test that holds is true, one that does not is false, and back.
@@ -48,28 +48,28 @@ is-no true h = absurd (h tt)
 is-no false h = refl
 
 module _ {A : Type 0} where
-  pub all-append : (p : A → Bool) (a b : List A) → T (all p a) → T (all p b) → T (all p (a ++ b))
-  unfolding all
+  pub all-append : (p : A → Bool) (a b : List A) → T (allOf p a) → T (allOf p b) → T (allOf p (a ++ b))
+  unfolding allOf
   all-append p [] b h g = g
-  all-append p (x ∷ a) b h g = let c = both (p x) (all p a) h in both-of (p x) (all p (a ++ b)) (c .0) (all-append p a b (c .1) g)
+  all-append p (x ∷ a) b h g = let c = both (p x) (allOf p a) h in both-of (p x) (allOf p (a ++ b)) (c .0) (all-append p a b (c .1) g)
 
-  pub all-then : (p q : A → Bool) → ((x : A) → T (p x) → T (q x)) → (a : List A) → T (all p a) → T (all q a)
-  unfolding all
+  pub all-then : (p q : A → Bool) → ((x : A) → T (p x) → T (q x)) → (a : List A) → T (allOf p a) → T (allOf q a)
+  unfolding allOf
   all-then p q f [] h = tt
-  all-then p q f (x ∷ a) h = let c = both (p x) (all p a) h in both-of (q x) (all q a) (f x (c .0)) (all-then p q f a (c .1))
+  all-then p q f (x ∷ a) h = let c = both (p x) (allOf p a) h in both-of (q x) (allOf q a) (f x (c .0)) (all-then p q f a (c .1))
 
   -- What holds of all holds of each by its place.
-  pub all-at : (p : A → Bool) (a : List A) (d : A) (i : ℕ) → T (all p a) → i < length a → T (p (getD a i d))
-  unfolding all
+  pub all-at : (p : A → Bool) (a : List A) (d : A) (i : ℕ) → T (allOf p a) → i < length a → T (p (getD a i d))
+  unfolding allOf
   all-at p [] d i h l = absurd (omega arith)
-  all-at p (x ∷ a) d zero h l = both (p x) (all p a) h .0
-  all-at p (x ∷ a) d (suc i) h l = all-at p a d i (both (p x) (all p a) h .1) (omega arith)
+  all-at p (x ∷ a) d zero h l = both (p x) (allOf p a) h .0
+  all-at p (x ∷ a) d (suc i) h l = all-at p a d i (both (p x) (allOf p a) h .1) (omega arith)
 
   -- What follows from the test on any element follows where it holds of some.
-  pub from-some : (p : A → Bool) (Q : Type 0) → ((x : A) → T (p x) → Q) → (xs : List A) → T (any p xs) → Q
-  unfolding any
+  pub from-some : (p : A → Bool) (Q : Type 0) → ((x : A) → T (p x) → Q) → (xs : List A) → T (anyOf p xs) → Q
+  unfolding anyOf
   from-some p Q f [] t = absurd t
-  from-some p Q f (x ∷ xs) t = ⊎-elim (f x) (from-some p Q f xs) (either (p x) (any p xs) t)
+  from-some p Q f (x ∷ xs) t = ⊎-elim (f x) (from-some p Q f xs) (either (p x) (anyOf p xs) t)
 
 -- What holds of all words of a table holds of a word that has a place there.
 numbered-step : (t : Bool) (r : ℕ) → (cond t 1 (cond (eqb r 0) 0 (suc r)) ≡ 0 → ⊥) → T t ⊎ (r ≡ 0 → ⊥)
@@ -77,11 +77,11 @@ numbered-step true r h = inl tt
 numbered-step false zero h = absurd (h refl)
 numbered-step false (suc r) h = inr (λ e. omega arith)
 
-pub numbered-all : (p : List ℕ → Bool) (names : List (List ℕ)) (w : List ℕ) → T (all p names) → (numbered names w ≡ 0 → ⊥) → T (p w)
-unfolding all numbered
+pub numbered-all : (p : List ℕ → Bool) (names : List (List ℕ)) (w : List ℕ) → T (allOf p names) → (numbered names w ≡ 0 → ⊥) → T (p w)
+unfolding allOf numbered
 numbered-all p [] w a h = absurd (h refl)
 numbered-all p (x ∷ names) w a h =
-    let c = both (p x) (all p names) a in
+    let c = both (p x) (allOf p names) a in
     ⊎-elim
     (λ t. subst (λ (u : List ℕ). T (p u)) (eqList-eq x w t) (c .0))
     (λ g. numbered-all p names w (c .1) g)

@@ -1,4 +1,4 @@
--- Laws of lists made for the numbers from one on: what is made of each, joined, and which of them a test finds.
+-- Laws of lists made for the numbers from one on: what is made of each, one behind the other, and which of them a test finds.
 -- Assumes nothing.
 use mathlib.Core.Path.{_≡_, refl, sym, ap, ap₂, _∙_}
 use mathlib.Core.Bool.{Bool, false, _||_}
@@ -9,7 +9,8 @@ use native.Mathlib.Nat.{eq-or-lt-of-le, suc-add, zero-add, add-zero}
 use native.Mathlib.Omega.{arith}
 use lib.Dec.{T}
 use lib.ListN.{length, length-append}
-use Rattle.numbers.specs.Tests.{any, listed, joined}
+use Rattle.numbers.specs.Tests.{anyOf, listed}
+use Rattle.numbers.proofs.Lists.{flat-append}
 use Rattle.image.proofs.Any.{or-assoc}
 use Rattle.listing.proofs.Kit.{left-of, right-of}
 
@@ -17,22 +18,11 @@ use Rattle.listing.proofs.Kit.{left-of, right-of}
 abbrev pub numbers : ℕ → ℕ → List ℕ
 numbers from n = listed from n (λ k. k)
 
-module _ {A B : Type 0} (f : A → List B) where
-  pub flat-append : (xs ys : List A) → flatMap f (xs ++ ys) ≡ flatMap f xs ++ flatMap f ys
-  unfolding flatMap
-  flat-append [] ys = refl
-  flat-append (x ∷ xs) ys = ap (λ (l : List B). f x ++ l) (flat-append xs ys) ∙ sym (append-assoc (f x) (flatMap f xs) (flatMap f ys))
-
 module _ {A B C : Type 0} (f : B → List C) (g : A → List B) where
   pub flat-flat : (xs : List A) → flatMap f (flatMap g xs) ≡ flatMap (λ x. flatMap f (g x)) xs
   unfolding flatMap
   flat-flat [] = refl
   flat-flat (x ∷ xs) = flat-append f (g x) (flatMap g xs) ∙ ap (λ (l : List C). flatMap f (g x) ++ l) (flat-flat xs)
-
-pub joined-flat : {A : Type 0} (f : A → List ℕ) (xs : List A) → joined f xs ≡ flatMap f xs
-unfolding joined flatMap
-joined-flat f [] = refl
-joined-flat f (x ∷ xs) = ap (λ (l : List ℕ). f x ++ l) (joined-flat f xs)
 
 module _ {A : Type 0} where
   pub listed-append : (f : ℕ → A) (from a b : ℕ) → listed from (a + b) f ≡ listed from a f ++ listed (from + a) b f
@@ -94,25 +84,25 @@ length-flat g from (suc n) e =
 
 -- A test on the elements of a list.
 module _ {A : Type 0} (p : A → Bool) where
-  pub any-append : (xs ys : List A) → any p (xs ++ ys) ≡ (any p xs || any p ys)
-  unfolding any
+  pub any-append : (xs ys : List A) → anyOf p (xs ++ ys) ≡ (anyOf p xs || anyOf p ys)
+  unfolding anyOf
   any-append [] ys = refl
-  any-append (x ∷ xs) ys = ap (λ (t : Bool). p x || t) (any-append xs ys) ∙ sym (or-assoc (p x) (any p xs) (any p ys))
+  any-append (x ∷ xs) ys = ap (λ (t : Bool). p x || t) (any-append xs ys) ∙ sym (or-assoc (p x) (anyOf p xs) (anyOf p ys))
 
-  pub any-listed : (f : ℕ → A) (from n k : ℕ) → from ≤ k → k < from + n → T (p (f k)) → T (any p (listed from n f))
-  unfolding any listed
+  pub any-listed : (f : ℕ → A) (from n k : ℕ) → from ≤ k → k < from + n → T (p (f k)) → T (anyOf p (listed from n f))
+  unfolding anyOf listed
   any-listed f from zero k l h t = absurd (omega arith)
   any-listed f from (suc n) k l h t = here (eq-or-lt-of-le l) (λ e. any-listed f (suc from) n k e (omega arith) t) where
-    here : (from ≡ k) ⊎ (from < k) → (from < k → T (any p (listed (suc from) n f))) → T (p (f from) || any p (listed (suc from) n f))
-    here (inl e) more = left-of (p (f from)) (any p (listed (suc from) n f)) (rw e t)
-    here (inr e) more = right-of (p (f from)) (any p (listed (suc from) n f)) (more e)
+    here : (from ≡ k) ⊎ (from < k) → (from < k → T (anyOf p (listed (suc from) n f))) → T (p (f from) || anyOf p (listed (suc from) n f))
+    here (inl e) more = left-of (p (f from)) (anyOf p (listed (suc from) n f)) (rw e t)
+    here (inr e) more = right-of (p (f from)) (anyOf p (listed (suc from) n f)) (more e)
 
-  pub none-listed : (f : ℕ → A) (from n : ℕ) → ((k : ℕ) → from ≤ k → k < from + n → p (f k) ≡ false) → any p (listed from n f) ≡ false
-  unfolding any listed
+  pub none-listed : (f : ℕ → A) (from n : ℕ) → ((k : ℕ) → from ≤ k → k < from + n → p (f k) ≡ false) → anyOf p (listed from n f) ≡ false
+  unfolding anyOf listed
   none-listed f from zero h = refl
   none-listed f from (suc n) h = rw (h from (omega arith) (omega arith), none-listed f (suc from) n (λ k l m. h k (omega arith) (omega arith)))
 
-pub any-flat : {A B : Type 0} (p : B → Bool) (g : A → List B) (xs : List A) → any p (flatMap g xs) ≡ any (λ x. any p (g x)) xs
-unfolding any flatMap
+pub any-flat : {A B : Type 0} (p : B → Bool) (g : A → List B) (xs : List A) → anyOf p (flatMap g xs) ≡ anyOf (λ x. anyOf p (g x)) xs
+unfolding anyOf flatMap
 any-flat p g [] = refl
-any-flat p g (x ∷ xs) = any-append p (g x) (flatMap g xs) ∙ ap (λ (t : Bool). any p (g x) || t) (any-flat p g xs)
+any-flat p g (x ∷ xs) = any-append p (g x) (flatMap g xs) ∙ ap (λ (t : Bool). anyOf p (g x) || t) (any-flat p g xs)

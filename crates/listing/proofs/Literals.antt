@@ -12,7 +12,7 @@ use lib.Dec.{T, leb, ltb, leb→le, ltb→lt}
 use lib.IntN.{ℤ, pos, negsuc}
 use lib.ListN.{length, length-append}
 use Rattle.numbers.specs.Bytes.{ascii}
-use Rattle.numbers.specs.Tests.{all, firstBelow, eqList}
+use Rattle.numbers.specs.Tests.{allOf, firstBelow, eqList}
 use Rattle.program.specs.Names.{letter, digit, wordCharacter}
 use Rattle.program.specs.Variables.{inRange, literals}
 use Rattle.program.proofs.Keys.{both, both-of}
@@ -45,8 +45,8 @@ digit-of : (m : ℕ) → m < 10 → T (digit (48 + m))
 unfolding digit
 digit-of m h = rw (le-leb 48 (48 + m) (omega arith), le-leb (48 + m) 57 (omega arith)) tt
 
-pub printed-digits : (w n : ℕ) → T (all digit (printed w n))
-unfolding printed all
+pub printed-digits : (w n : ℕ) → T (allOf digit (printed w n))
+unfolding printed allOf
 printed-digits zero n = tt
 printed-digits (suc w) n =
     all-append digit (printed w (n / 10)) ((48 + n % 10) ∷ []) (printed-digits w (n / 10))
@@ -56,7 +56,7 @@ digit-word : (c : ℕ) → T (digit c) → T (wordCharacter c)
 unfolding wordCharacter
 digit-word c t = right-of (letter c) (digit c) t
 
-printed-word : (w n : ℕ) → T (all wordCharacter (printed w n))
+printed-word : (w n : ℕ) → T (allOf wordCharacter (printed w n))
 printed-word w n = all-then digit wordCharacter digit-word (printed w n) (printed-digits w n)
 
 -- The width of a literal: 1 to 10, and enough.
@@ -88,7 +88,7 @@ figures n = printed (width n) n
 
 pub figures-digits : (n : ℕ) (g : Bool) → digits (token (figures n) g) ≡ true
 unfolding digits
-figures-digits n g = rw (is-true (all digit (figures n)) (printed-digits (width n) n), printed-length (width n) n, le-leb (width n) 10 (width-most n))
+figures-digits n g = rw (is-true (allOf digit (figures n)) (printed-digits (width n) n), printed-length (width n) n, le-leb (width n) 10 (width-most n))
 
 pub figures-value : (n : ℕ) → n < 10 ^ 10 → decimal 0 (figures n) ≡ n
 figures-value n h = printed-value (width n) n (width-enough n h)
@@ -107,19 +107,19 @@ literal-digits n g [] h = rw (figures-digits n g, figures-value n h)
 literal-digits n g (u ∷ ts) h = rw (figures-digits n g, figures-value n h)
 
 pub literal-read : (z : ℤ) (g : Bool) (ts : List Token) → T (inRange literals z) → literal (literalTokens z g ts) ≡ take z ts
-unfolding literal digits eqList ascii all digit
+unfolding literal digits eqList ascii allOf digit
 literal-read (pos n) g ts h = literal-digits n g ts (below n (leb→le n 2147483647 h))
 literal-read (negsuc n) g ts h =
     let l = leb→le n 2147483646 (both (leb n 2147483646) true h .0) in
     rw (figures-digits (suc n) g, figures-value (suc n) (below (suc n) (omega arith)))
 
 -- What starts with a word is glued, and starts with no sign.
-pub word-follows : (w rest : List ℕ) → T (all wordCharacter w) → 0 < length w → follows (w ++ rest) ≡ true
-unfolding all wordCharacter letter digit
+pub word-follows : (w rest : List ℕ) → T (allOf wordCharacter w) → 0 < length w → follows (w ++ rest) ≡ true
+unfolding allOf wordCharacter letter digit
 word-follows [] rest h l = absurd (omega arith)
-word-follows (c ∷ w) rest h l = ap not (word-is-not c 32 (both (wordCharacter c) (all wordCharacter w) h .0) tt)
+word-follows (c ∷ w) rest h l = ap not (word-is-not c 32 (both (wordCharacter c) (allOf wordCharacter w) h .0) tt)
 
-pub figures-word : (n : ℕ) → T (all wordCharacter (figures n))
+pub figures-word : (n : ℕ) → T (allOf wordCharacter (figures n))
 figures-word n = printed-word (width n) n
 
 pub figures-some : (n : ℕ) → 0 < length (figures n)
@@ -135,8 +135,8 @@ tokens-literal (negsuc n) rest e =
     (word-follows (figures (suc n)) rest (figures-word (suc n)) (figures-some (suc n)))
     (tokens-word (figures (suc n)) rest (figures-word (suc n)) (figures-some (suc n)) e)
 
-pub literal-fine : (z : ℤ) → T (all fine (plain z))
-unfolding plain ascii all printable
+pub literal-fine : (z : ℤ) → T (allOf fine (plain z))
+unfolding plain ascii allOf printable
 literal-fine (pos n) = all-then wordCharacter fine word-fine (figures n) (figures-word n)
 literal-fine (negsuc n) = all-then wordCharacter fine word-fine (figures (suc n)) (figures-word (suc n))
 

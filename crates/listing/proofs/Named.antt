@@ -8,7 +8,7 @@ use Prim.Native.Nat.{ℕ, _+_, _-_, _≤_, _<_}
 use native.Mathlib.Omega.{arith}
 use borrow.Author.Tests.{ne-eqb, lt-ltb, le-ltb}
 use lib.Dec.{T, eqb, leb, ltb, leb→le, ltb→lt}
-use Rattle.numbers.specs.Tests.{any, firstBelow}
+use Rattle.numbers.specs.Tests.{anyOf, firstBelow}
 use Rattle.program.specs.Names.{paperVariable}
 use Rattle.program.specs.Variables.{present, readOnly}
 use Rattle.program.specs.Statements.{Value, Literal, Variable, Condition, Always, Compare, Statement, Set, SetWith, IC, DC, BR, CL, RT, E, H, Hold, OE, Disarm, MA, MR, SL, PR, operands, compared, writes, targets}
@@ -103,13 +103,13 @@ module _ (s : List ℕ) (a : Accepted s) (r : Recorded s) where
       let p : ℕ → Bool = λ k. eqb (labelTarget s k) n in
       label-declared s r (firstBelow (labelCount s) p) (first-found (labelCount s) p h)
 
-  known-condition : (c : Condition ℕ) → Compared s c → any (unknownValue xs) (compared (conditionNamed s c)) ≡ false
-  unfolding compared conditionNamed any
+  known-condition : (c : Condition ℕ) → Compared s c → anyOf (unknownValue xs) (compared (conditionNamed s c)) ≡ false
+  unfolding compared conditionNamed anyOf
   known-condition Always h = refl
   known-condition (Compare x c y) h = rw (known-value x (h .0), known-value y (h .1))
 
   known : (st : Statement ℕ) → Resolved s st → unknownIn xs (statementNamed s st) ≡ false
-  unfolding unknownIn statementNamed targets writes operands any
+  unfolding unknownIn statementNamed targets writes operands anyOf
   known (Set v x) h = rw (known-variable v (h .0 .0), known-value x (h .1))
   known (SetWith v x o y) h = rw (known-variable v (h .0 .0), known-value x (h .1), known-value y (h .2))
   known (IC v) h = rw (known-variable v (h .0))
@@ -135,8 +135,8 @@ module _ (s : List ℕ) (a : Accepted s) (r : Recorded s) where
       (λ e l. rw e (is-false (readOnly v) (h .1)))
       (λ e m. rw e)
 
-  kept : (st : Statement ℕ) → Resolved s st → any (λ v. readOnly (paperVariable v)) (writes (statementNamed s st)) ≡ false
-  unfolding statementNamed writes any
+  kept : (st : Statement ℕ) → Resolved s st → anyOf (λ v. readOnly (paperVariable v)) (writes (statementNamed s st)) ≡ false
+  unfolding statementNamed writes anyOf
   kept (Set v x) h = rw (writable v (h .0))
   kept (SetWith v x o y) h = rw (writable v (h .0))
   kept (IC v) h = rw (writable v h)

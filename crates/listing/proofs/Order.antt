@@ -10,6 +10,7 @@ use native.Mathlib.Omega.{arith}
 use borrow.Author.Tests.{leb-false, eq-eqb, ne-eqb}
 use lib.Dec.{eqb, leb, leb→le}
 use Rattle.numbers.specs.Tests.{listed, firstBelow}
+use Rattle.numbers.proofs.Lists.{flat-append}
 use Rattle.program.specs.Names.{Name}
 use Rattle.program.specs.Statements.{Statement}
 use Rattle.program.specs.Cells.{statementOf}
@@ -17,7 +18,7 @@ use Rattle.text.specs.Forms.{Line, Label, Acts}
 use Rattle.image.specs.Layout.{cellCount, labelCount, variableCount, cellAt, labelTarget}
 use Rattle.listing.specs.Listed.{statementNamed, variableSays, labelSays, labelsSay, cellSays, listedLines}
 use Rattle.listing.proofs.Kit.{first-most, first-passes, first-before}
-use Rattle.listing.proofs.Lists.{numbers, flat-append, flat-flat, flat-same, flat-none, flat-middle, flat-listed, listed-append}
+use Rattle.listing.proofs.Lists.{numbers, flat-flat, flat-same, flat-none, flat-middle, flat-listed, listed-append}
 use Rattle.listing.proofs.Recorded.{Recorded, nameOfLabel}
 
 -- The lines of label record k and of cell k.

@@ -11,12 +11,12 @@ use borrow.Author.Tests.{eq-eqb, eqb-true, ne-eqb, lt-ltb, le-ltb}
 use lib.Dec.{T, eqb, leb, ltb, leb→le, ltb→lt, eqb→eq}
 use lib.ListN.{getD}
 use Rattle.numbers.specs.Bytes.{ascii}
-use Rattle.numbers.specs.Tests.{any, allBelow, anyBelow, firstBelow, listed, eqList, numbered}
+use Rattle.numbers.specs.Tests.{anyOf, allBelow, anyBelow, firstBelow, listed, eqList, numbered}
 use Rattle.program.specs.Names.{Name, variableNames, paperVariable, reserved, twoCharacters, userName, mnemonics}
 use Rattle.program.specs.Variables.{present}
 use Rattle.program.proofs.Keys.{both, either, eqList-refl, eqList-eq}
 use Rattle.text.specs.Forms.{Line, Label}
-use Rattle.text.specs.Faults.{declares, declaresIt, count, makesCell, makesVariable, placeOf, rankOf, numberOf}
+use Rattle.text.specs.Faults.{declares, declaresIt, howMany, makesCell, makesVariable, placeOf, rankOf, numberOf}
 use Rattle.image.specs.Layout.{cellCount, labelCount, variableCount, labelTarget}
 use Rattle.listing.specs.Listing.{variableName, labelName}
 use Rattle.listing.specs.Listed.{variableSays, labelSays, labelsSay, cellSays, listedLines}
@@ -32,10 +32,10 @@ use Rattle.listing.proofs.Declaring.{label-not-before}
 
 module _ (w : Name) where
   -- Behind lines that do not declare the name; among lines that do, and make no cell.
-  place-behind : (xs ys : List Line) → any (declaresIt w) xs ≡ false → count makesCell xs ≡ 0 → placeOf (xs ++ ys) w ≡ placeOf ys w
-  unfolding any count placeOf
+  place-behind : (xs ys : List Line) → anyOf (declaresIt w) xs ≡ false → howMany makesCell xs ≡ 0 → placeOf (xs ++ ys) w ≡ placeOf ys w
+  unfolding anyOf howMany placeOf
   place-behind [] ys h n = refl
-  place-behind (x ∷ xs) ys h n = go (declaresIt w x) (any (declaresIt w) xs) (makesCell x) (count makesCell xs) h n (place-behind xs ys)
+  place-behind (x ∷ xs) ys h n = go (declaresIt w x) (anyOf (declaresIt w) xs) (makesCell x) (howMany makesCell xs) h n (place-behind xs ys)
     where
       go : (b c m : Bool) (k : ℕ) → (b || c) ≡ false → cond m (suc k) k ≡ 0 → (c ≡ false → k ≡ 0 → placeOf (xs ++ ys) w ≡ placeOf ys w)
           → cond b 0 (cond m (suc (placeOf (xs ++ ys) w)) (placeOf (xs ++ ys) w)) ≡ placeOf ys w
@@ -43,10 +43,10 @@ module _ (w : Name) where
       go false c true k e n f = absurd (omega arith)
       go false c false k e n f = f e n
 
-  place-here : (xs ys : List Line) → T (any (declaresIt w) xs) → count makesCell xs ≡ 0 → placeOf (xs ++ ys) w ≡ 0
-  unfolding any count placeOf
+  place-here : (xs ys : List Line) → T (anyOf (declaresIt w) xs) → howMany makesCell xs ≡ 0 → placeOf (xs ++ ys) w ≡ 0
+  unfolding anyOf howMany placeOf
   place-here [] ys h n = absurd h
-  place-here (x ∷ xs) ys h n = go (declaresIt w x) (any (declaresIt w) xs) (makesCell x) (count makesCell xs) h n (place-here xs ys)
+  place-here (x ∷ xs) ys h n = go (declaresIt w x) (anyOf (declaresIt w) xs) (makesCell x) (howMany makesCell xs) h n (place-here xs ys)
     where
       go : (b c m : Bool) (k : ℕ) → T (b || c) → cond m (suc k) k ≡ 0 → (T c → k ≡ 0 → placeOf (xs ++ ys) w ≡ 0)
           → cond b 0 (cond m (suc (placeOf (xs ++ ys) w)) (placeOf (xs ++ ys) w)) ≡ 0
@@ -54,8 +54,8 @@ module _ (w : Name) where
       go false c true k e n f = absurd (omega arith)
       go false c false k e n f = f e n
 
-front-no-cell : (s : List ℕ) (from n : ℕ) → count makesCell (listed from n (variableSays s)) ≡ 0
-unfolding count listed makesCell variableSays
+front-no-cell : (s : List ℕ) (from n : ℕ) → howMany makesCell (listed from n (variableSays s)) ≡ 0
+unfolding howMany listed makesCell variableSays
 front-no-cell s from zero = refl
 front-no-cell s from (suc n) = front-no-cell s (suc from) n
 
@@ -64,20 +64,20 @@ module _ (s : List ℕ) (r : Recorded s) (k : ℕ) (l : k < labelCount s) where
   w = nameOfLabel s k
 
   -- The label stands before its target, and before no other cell.
-  label-here : (t : ℕ) → labelTarget s k ≡ t → T (any (declaresIt w) (labelsSay s t))
-  unfolding labelsSay labelSays any declaresIt declares
+  label-here : (t : ℕ) → labelTarget s k ≡ t → T (anyOf (declaresIt w) (labelsSay s t))
+  unfolding labelsSay labelSays anyOf declaresIt declares
   label-here t e =
       subst T (sym (any-flat (declaresIt w) (labelSays s t) (numbers 0 (labelCount s))))
-      (any-listed (λ j. any (declaresIt w) (labelSays s t j)) (λ j. j) 0 (labelCount s) k (omega arith) (omega arith)
+      (any-listed (λ j. anyOf (declaresIt w) (labelSays s t j)) (λ j. j) 0 (labelCount s) k (omega arith) (omega arith)
       (rw (eq-eqb (labelTarget s k) t e) (left-of (eqList w w || false) false (left-of (eqList w w) false (eqList-refl w)))))
 
-  label-away : (t : ℕ) → (labelTarget s k ≡ t → ⊥) → any (declaresIt w) (labelsSay s t) ≡ false
-  unfolding labelsSay labelSays any declaresIt declares
+  label-away : (t : ℕ) → (labelTarget s k ≡ t → ⊥) → anyOf (declaresIt w) (labelsSay s t) ≡ false
+  unfolding labelsSay labelSays anyOf declaresIt declares
   label-away t n =
       any-flat (declaresIt w) (labelSays s t) (numbers 0 (labelCount s))
-      ∙ none-listed (λ j. any (declaresIt w) (labelSays s t j)) (λ j. j) 0 (labelCount s) (λ j g h. go j (omega arith) (eqb (labelTarget s j) t) refl)
+      ∙ none-listed (λ j. anyOf (declaresIt w) (labelSays s t j)) (λ j. j) 0 (labelCount s) (λ j g h. go j (omega arith) (eqb (labelTarget s j) t) refl)
     where
-      go : (j : ℕ) → j < labelCount s → (b : Bool) → eqb (labelTarget s j) t ≡ b → any (declaresIt w) (cond b (Label (nameOfLabel s j) ∷ []) []) ≡ false
+      go : (j : ℕ) → j < labelCount s → (b : Bool) → eqb (labelTarget s j) t ≡ b → anyOf (declaresIt w) (cond b (Label (nameOfLabel s j) ∷ []) []) ≡ false
       go j h true e =
           let f : eqList w (nameOfLabel s j) ≡ false =
           is-no (eqList w (nameOfLabel s j)) (λ y. n (ap (labelTarget s) (r .label-once k j l h (eqList-eq w (nameOfLabel s j) y)) ∙ eqb-true (labelTarget s j) t e)) in
@@ -86,7 +86,7 @@ module _ (s : List ℕ) (r : Recorded s) (k : ℕ) (l : k < labelCount s) where
 
   placed-step : (t : ℕ) (more : List Line) → (t ≡ labelTarget s k) ⊎ (t < labelTarget s k) → (t < labelTarget s k → placeOf more w ≡ labelTarget s k - suc t)
       → placeOf (labelsSay s t ++ (cellLine s t ∷ more)) w ≡ labelTarget s k - t
-  unfolding placeOf declaresIt declares any makesCell
+  unfolding placeOf declaresIt declares anyOf makesCell
   placed-step t more (inl e) f =
       place-here w (labelsSay s t) (cellLine s t ∷ more) (label-here t (sym e)) (labels-no-cell s t) ∙ omega arith
   placed-step t more (inr m) f =
@@ -132,7 +132,7 @@ target-placed s r t h =
 module _ (s : List ℕ) (r : Recorded s) (k : ℕ) (l : k < variableCount s) where
   ranked-step : (from : ℕ) (more : List Line) → from < variableCount s → (from ≡ k) ⊎ (from < k) → (from < k → rankOf more (nameOfVariable s k) ≡ k - suc from)
       → rankOf (variableSays s from ∷ more) (nameOfVariable s k) ≡ k - from
-  unfolding rankOf declaresIt declares any makesVariable variableSays
+  unfolding rankOf declaresIt declares anyOf makesVariable variableSays
   ranked-step from more h (inl e) f =
       let t : eqList (nameOfVariable s k) (nameOfVariable s from) ≡ true =
       is-true (eqList (nameOfVariable s k) (nameOfVariable s from)) (subst (λ (j : ℕ). T (eqList (nameOfVariable s k) (nameOfVariable s j))) (sym e) (eqList-refl (nameOfVariable s k))) in

@@ -10,7 +10,7 @@ use borrow.Author.Tests.{ne-eqb, eqb-true}
 use lib.Dec.{T, eqb, leb, leb→le, eqb→eq}
 use Rattle.numbers.specs.Bytes.{field}
 use Rattle.numbers.specs.Bits.{signed32}
-use Rattle.numbers.specs.Tests.{any, anyBelow}
+use Rattle.numbers.specs.Tests.{anyOf, anyBelow}
 use Rattle.program.specs.Variables.{inRange, literals, present, readOnly}
 use Rattle.program.specs.Statements.{Value, Literal, Variable, Condition, Always, Compare, Statement, Set, SetWith, IC, DC, BR, CL, RT, E, H, Hold, OE, Disarm, MA, MR, SL, PR}
 use Rattle.program.specs.Cells.{noTarget, cell, same, operandOf, jumpOf, cellOf, valueOf, conditionOf, holdOf, statementBy, statementOf}
@@ -250,7 +250,7 @@ module _ (s : List ℕ) where
     arms t = armed (field 2 (16 * k + 12) s) (eqb (field 2 (16 * k + 12) s) noTarget) refl t
 
     -- A cell that has one of the layouts.
-    pub stands : T (any (fits s (16 * k)) layouts) → Stands (cellAt s k)
+    pub stands : T (anyOf (fits s (16 * k)) layouts) → Stands (cellAt s k)
     unfolding layouts
     stands t =
         from-any (fits s (16 * k)) (Stands at) layouts (

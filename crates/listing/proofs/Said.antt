@@ -8,7 +8,7 @@ use native.Mathlib.Omega.{arith}
 use lib.Dec.{eqb}
 use lib.ListN.{length, length-append}
 use Rattle.numbers.specs.Bytes.{ascii}
-use Rattle.numbers.specs.Tests.{listed, joined}
+use Rattle.numbers.specs.Tests.{listed}
 use Rattle.program.specs.Names.{Name}
 use Rattle.program.specs.Statements.{Value, Literal, Variable, Condition, Always, Compare, Statement, Set, SetWith, IC, DC, BR, CL, RT, E, H, Hold, OE, Disarm, MA, MR, SL, PR}
 use Rattle.program.specs.Cells.{statementOf}
@@ -50,18 +50,18 @@ says-line l x h = record {
 
 -- One after the other, for each number from `from` on.
 module _ (f : ℕ → List ℕ) where
-  says-each : (g : ℕ → List Line) (from n : ℕ) → ((k : ℕ) → k < from + n → Says (f k) (g k)) → Says (joined f (listed from n (λ k. k))) (flatMap g (listed from n (λ k. k)))
-  unfolding joined listed flatMap
+  says-each : (g : ℕ → List Line) (from n : ℕ) → ((k : ℕ) → k < from + n → Says (f k) (g k)) → Says (flatMap f (listed from n (λ k. k))) (flatMap g (listed from n (λ k. k)))
+  unfolding flatMap listed flatMap
   says-each g from zero h = says-none
   says-each g from (suc n) h =
-      says-both (f from) (joined f (listed (suc from) n (λ k. k))) (g from) (flatMap g (listed (suc from) n (λ k. k)))
+      says-both (f from) (flatMap f (listed (suc from) n (λ k. k))) (g from) (flatMap g (listed (suc from) n (λ k. k)))
       (h from (omega arith)) (says-each g (suc from) n (λ k l. h k (omega arith)))
 
-  says-all : (g : ℕ → Line) (from n : ℕ) → ((k : ℕ) → k < from + n → Says (f k) (g k ∷ [])) → Says (joined f (listed from n (λ k. k))) (listed from n g)
-  unfolding joined listed
+  says-all : (g : ℕ → Line) (from n : ℕ) → ((k : ℕ) → k < from + n → Says (f k) (g k ∷ [])) → Says (flatMap f (listed from n (λ k. k))) (listed from n g)
+  unfolding flatMap listed
   says-all g from zero h = says-none
   says-all g from (suc n) h =
-      says-both (f from) (joined f (listed (suc from) n (λ k. k))) (g from ∷ []) (listed (suc from) n g)
+      says-both (f from) (flatMap f (listed (suc from) n (λ k. k))) (g from ∷ []) (listed (suc from) n g)
       (h from (omega arith)) (says-all g (suc from) n (λ k l. h k (omega arith)))
 
 -- The listing prints a statement as it is told by its names.
@@ -132,8 +132,8 @@ module _ (s : List ℕ) (a : Accepted s) where
   pub says-listing : Says (listing s) (listedLines s)
   unfolding listing listedLines
   says-listing =
-      let vs = joined (variableLine s) (listed 0 (variableCount s) (λ k. k)) in
-      let cs = joined (cellLines s) (listed 0 (cellCount s) (λ k. k)) in
+      let vs = flatMap (variableLine s) (listed 0 (variableCount s) (λ k. k)) in
+      let cs = flatMap (cellLines s) (listed 0 (cellCount s) (λ k. k)) in
       let xs = listed 0 (variableCount s) (variableSays s) in
       let ys = flatMap (cellSays s) (listed 0 (cellCount s) (λ k. k)) in
       says-both vs (cs ++ labelLines s (cellCount s)) xs (ys ++ labelsSay s (cellCount s))

@@ -8,7 +8,7 @@ use native.Mathlib.Omega.{arith}
 use lib.Dec.{T, eqb}
 use lib.ListN.{length, getD}
 use Rattle.numbers.specs.Bytes.{ascii}
-use Rattle.numbers.specs.Tests.{all, numbered, eqList}
+use Rattle.numbers.specs.Tests.{allOf, numbered, eqList}
 use Rattle.program.specs.Names.{Name, letter, digit, wordCharacter}
 use Rattle.text.specs.Tokens.{tokens, joins, printable}
 use Rattle.text.specs.Forms.{operators, comparisons}
@@ -19,17 +19,17 @@ use Rattle.listing.proofs.Values.{Starts}
 pub record Sign (w : Name) : Type 0 where
   pub cuts : (rest : List ℕ) → Starts rest → tokens (w ++ rest) ≡ token w (follows rest) ∷ tokens rest
   pub stops : (rest : List ℕ) → Stops (w ++ rest)
-  pub kind : T (all fine w)
+  pub kind : T (allOf fine w)
   pub short : length w ≤ 2
 
 -- A sign of one character that no other joins.
 single : (c : ℕ) → eqb c 32 ≡ false → ((d : ℕ) → joins c d ≡ false) → wordCharacter c ≡ false → T (fine c && true) → Sign (c ∷ [])
-unfolding all
+unfolding allOf
 single c s j w f = record { cuts = λ rest h. tokens-sign c rest s (j (getD rest 0 32)); stops = λ rest. w; kind = f; short = omega arith }
 
 -- All that a sign computes with.
 signs : Unit {0}
-unfolding ascii all printable joins wordCharacter letter digit operators comparisons numbered eqList
+unfolding ascii allOf printable joins wordCharacter letter digit operators comparisons numbered eqList
 signs = tt
 
 less : Sign (ascii "<")

@@ -9,10 +9,10 @@ use native.Mathlib.Omega.{arith}
 use borrow.Author.Tests.{ne-eqb, le-leb}
 use lib.Dec.{T, T-not, eqb, leb, leb→le}
 use lib.ListN.{length, getD}
-use Rattle.numbers.specs.Tests.{all}
+use Rattle.numbers.specs.Tests.{allOf}
 use Rattle.program.specs.Names.{letter, digit, wordCharacter}
 use Rattle.program.proofs.Keys.{both, either}
-use Rattle.text.specs.Tokens.{Token, tokens, joins, longer, printable, uncommented}
+use Rattle.text.specs.Tokens.{Token, tokens, joins, ontoFirstToken, printable, uncommented}
 use Rattle.listing.proofs.Kit.{is-true, is-false, all-then}
 use Rattle.listing.proofs.Cut.{inLine}
 
@@ -60,15 +60,15 @@ unfolding joins wordCharacter letter digit
 word-ends c d h e = rw (is-true (wordCharacter c) h, e, word-is-not c 60 h tt, word-is-not c 62 h tt)
 
 -- A word, or a run of digits.
-pub tokens-word : (w rest : List ℕ) → T (all wordCharacter w) → 0 < length w → Stops rest → tokens (w ++ rest) ≡ token w (follows rest) ∷ tokens rest
-unfolding tokens longer all wordCharacter letter digit
+pub tokens-word : (w rest : List ℕ) → T (allOf wordCharacter w) → 0 < length w → Stops rest → tokens (w ++ rest) ≡ token w (follows rest) ∷ tokens rest
+unfolding tokens ontoFirstToken allOf wordCharacter letter digit
 tokens-word [] rest h l e = absurd (omega arith)
 tokens-word (c ∷ []) rest h l e =
     let p = both (wordCharacter c) true h in
     rw (word-is-not c 32 (p .0) tt, word-ends c (getD rest 0 32) (p .0) e)
 tokens-word (c ∷ d ∷ w) rest h l e =
-    let p = both (wordCharacter c) (all wordCharacter (d ∷ w)) h in
-    let q = both (wordCharacter d) (all wordCharacter w) (p .1) in
+    let p = both (wordCharacter c) (allOf wordCharacter (d ∷ w)) h in
+    let q = both (wordCharacter d) (allOf wordCharacter w) (p .1) in
     rw (word-is-not c 32 (p .0) tt, word-joins c d (p .0) (q .0), tokens-word (d ∷ w) rest (p .1) (omega arith) e)
 
 -- A sign of one character, and one of two.
@@ -78,7 +78,7 @@ tokens-sign c rest s j = rw (s, j)
 
 pub tokens-pair : (c d : ℕ) (rest : List ℕ) → eqb c 32 ≡ false → joins c d ≡ true → eqb d 32 ≡ false → joins d (getD rest 0 32) ≡ false
     → tokens (c ∷ d ∷ rest) ≡ token (c ∷ d ∷ []) (follows rest) ∷ tokens rest
-unfolding tokens longer
+unfolding tokens ontoFirstToken
 tokens-pair c d rest s j t k = rw (s, j, t, k)
 
 pub tokens-space : (rest : List ℕ) → tokens (32 ∷ rest) ≡ tokens rest
@@ -95,10 +95,10 @@ word-fine c h =
     let a = among c h in
     rw (le-leb 32 c (omega arith), le-leb c 126 (omega arith), ne-eqb c 39 (λ e. omega arith)) tt
 
-pub fine-printable : (l : List ℕ) → T (all fine l) → all printable l ≡ true
-fine-printable l h = is-true (all printable l) (all-then fine printable (λ c t. both (printable c) (not (eqb c 39)) t .0) l h)
+pub fine-printable : (l : List ℕ) → T (allOf fine l) → allOf printable l ≡ true
+fine-printable l h = is-true (allOf printable l) (all-then fine printable (λ c t. both (printable c) (not (eqb c 39)) t .0) l h)
 
-pub fine-in-line : (l : List ℕ) → T (all fine l) → T (all inLine l)
+pub fine-in-line : (l : List ℕ) → T (allOf fine l) → T (allOf inLine l)
 unfolding printable
 fine-in-line l h = all-then fine inLine one l h where
   one : (c : ℕ) → T (fine c) → T (inLine c)
@@ -107,10 +107,10 @@ fine-in-line l h = all-then fine inLine one l h where
       let g = leb→le 32 c (both (leb 32 c) (leb c 126) b .0) in
       rw (ne-eqb c 10 (λ e. omega arith), ne-eqb c 13 (λ e. omega arith)) tt
 
-pub fine-uncommented : (l : List ℕ) → T (all fine l) → uncommented l ≡ l
-unfolding uncommented all
+pub fine-uncommented : (l : List ℕ) → T (allOf fine l) → uncommented l ≡ l
+unfolding uncommented allOf
 fine-uncommented [] h = refl
 fine-uncommented (c ∷ l) h =
-    let p = both (fine c) (all fine l) h in
+    let p = both (fine c) (allOf fine l) h in
     let q = both (printable c) (not (eqb c 39)) (p .0) in
     rw (is-false (eqb c 39) (q .1), fine-uncommented l (p .1))

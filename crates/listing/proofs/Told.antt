@@ -11,11 +11,11 @@ use lib.Dec.{T, ltb, lit≤}
 use lib.IntN.{ℤ}
 use lib.ListN.{length, getD, length-append}
 use Rattle.numbers.specs.Bytes.{ascii}
-use Rattle.numbers.specs.Tests.{all, any}
+use Rattle.numbers.specs.Tests.{allOf, anyOf}
 use Rattle.program.specs.Names.{Name, letter, digit, wordCharacter, reserved, userName}
 use Rattle.program.specs.Variables.{inRange, literals}
 use Rattle.program.specs.Statements.{Value, Literal, Variable, Condition, Always, Compare, Statement, Set, SetWith, IC, DC, BR, CL, RT, E, H, Hold, OE, Disarm, MA, MR, SL, PR, operands, compared}
-use Rattle.text.specs.Tokens.{Token, tokens, joins, longer, printable, uncommented}
+use Rattle.text.specs.Tokens.{Token, tokens, joins, ontoFirstToken, printable, uncommented}
 use Rattle.text.specs.Forms.{Line, Label, Declared, Acts, operators, comparisons, variableName, statement, reading}
 use Rattle.text.specs.Faults.{longLine, badForm, tooBig, bigValue, bigIn, bigLiteral, declares, reservedName, heard}
 use Rattle.listing.specs.Listing.{plain}
@@ -28,11 +28,11 @@ use Rattle.listing.proofs.Rows.{table, says-LB, says-VA, says-IC, says-
 -- A part of a line, up to its end: its tokens, its bytes, and at most how many.
 pub record Part (l : List ℕ) (ts : List Token) (n : ℕ) : Type 0 where
   pub cut : tokens l ≡ ts
-  pub kind : T (all fine l)
+  pub kind : T (allOf fine l)
   pub size : length l ≤ n
 
 part-end : Part [] [] 0
-unfolding tokens all
+unfolding tokens allOf
 part-end = record { cut = refl; kind = tt; size = omega arith }
 
 -- What stands in front of a part.
@@ -71,7 +71,7 @@ starts-last x s = subst Starts (append-nil (valueTold x)) (value-starts x [] s)
 
 -- A mnemonic and its space.
 part-mnemonic : (m : Name) → T (spelt m) → {rest : List ℕ} {ts : List Token} {n : ℕ} → Part rest ts n → Part (m ++ (32 ∷ rest)) (token m false ∷ ts) (3 + n)
-unfolding tokens all printable wordCharacter letter digit
+unfolding tokens allOf printable wordCharacter letter digit
 part-mnemonic m t {rest} {ts} {n} p =
     let q : Part (32 ∷ rest) ts (1 + n) = record { cut = p .cut; kind = p .kind; size = omega (arith, p .size) } in
     let r = part-name q m (spelling m t) refl in
@@ -79,7 +79,7 @@ part-mnemonic m t {rest} {ts} {n} p =
 
 -- A line as it is printed, and what it says.
 pub record Printed (l : List ℕ) (x : Line) : Type 0 where
-  pub kind : T (all fine l)
+  pub kind : T (allOf fine l)
   pub size : length l ≤ 32
   pub reads : reading l ≡ some x
 
@@ -92,7 +92,7 @@ printed l x p h e = record {
 }
 
 -- Such a line is heard, where it has no literal that is too big and declares no reserved name.
-pub heard-printed : (l : List ℕ) (x : Line) → Printed l x → bigIn x ≡ false → any reserved (declares x) ≡ false → heard l ≡ x
+pub heard-printed : (l : List ℕ) (x : Line) → Printed l x → bigIn x ≡ false → anyOf reserved (declares x) ≡ false → heard l ≡ x
 unfolding heard longLine badForm bigLiteral reservedName
 heard-printed l x p b r =
     let s : ltb 64 (length l) ≡ false = le-ltb 64 (length l) (omega (arith, p .size)) in
@@ -100,7 +100,7 @@ heard-printed l x p b r =
 
 -- All that a word of the table computes with.
 letters : Unit {0}
-unfolding ascii all wordCharacter letter digit
+unfolding ascii allOf wordCharacter letter digit
 letters = tt
 
 -- The lines that declare.
@@ -217,19 +217,19 @@ module _ (x : Value Name) (h : Sound x) where
 
 -- The lines that are the same in every listing.
 pub reads-RT : Printed (ascii "RT") (Acts RT)
-unfolding table all reading tokens longer joins printable uncommented
+unfolding table allOf reading tokens ontoFirstToken joins printable uncommented
 reads-RT = record { kind = tt; size = lit≤ tt; reads = refl }
 
 pub reads-E : Printed (ascii "E") (Acts E)
-unfolding table all reading tokens longer joins printable uncommented
+unfolding table allOf reading tokens ontoFirstToken joins printable uncommented
 reads-E = record { kind = tt; size = lit≤ tt; reads = refl }
 
 pub reads-H : Printed (ascii "H") (Acts H)
-unfolding table all reading tokens longer joins printable uncommented
+unfolding table allOf reading tokens ontoFirstToken joins printable uncommented
 reads-H = record { kind = tt; size = lit≤ tt; reads = refl }
 
 pub reads-disarm : Printed (ascii "OE 0") (Acts Disarm)
-unfolding table all reading tokens longer joins printable uncommented
+unfolding table allOf reading tokens ontoFirstToken joins printable uncommented
 reads-disarm = record { kind = tt; size = lit≤ tt; reads = refl }
 
 -- A statement as it is printed, and one that a text can have.
@@ -295,21 +295,21 @@ unfolding bigValue tooBig
 sound-small (Literal z) h = rw (is-true (inRange literals z) h)
 sound-small (Variable w) h = refl
 
-one-small : (x : Value Name) → Sound x → any bigValue (x ∷ []) ≡ false
-unfolding any
+one-small : (x : Value Name) → Sound x → anyOf bigValue (x ∷ []) ≡ false
+unfolding anyOf
 one-small x h = rw (sound-small x h)
 
-two-small : (x y : Value Name) → Sound x → Sound y → any bigValue (x ∷ y ∷ []) ≡ false
-unfolding any
+two-small : (x y : Value Name) → Sound x → Sound y → anyOf bigValue (x ∷ y ∷ []) ≡ false
+unfolding anyOf
 two-small x y h k = rw (sound-small x h, sound-small y k)
 
-compared-small : (c : Condition Name) → Fair c → any bigValue (compared c) ≡ false
-unfolding any compared
+compared-small : (c : Condition Name) → Fair c → anyOf bigValue (compared c) ≡ false
+unfolding anyOf compared
 compared-small Always f = refl
 compared-small (Compare x c y) f = two-small x y (f .0) (f .2)
 
-small : (a : Statement Name) → Sayable a → any bigValue (operands a) ≡ false
-unfolding any operands
+small : (a : Statement Name) → Sayable a → anyOf bigValue (operands a) ≡ false
+unfolding anyOf operands
 small (Set v x) h = one-small x (h .1)
 small (SetWith v x o y) h = two-small x y (h .1) (h .3)
 small (IC v) h = refl
@@ -329,24 +329,24 @@ small (PR x) h = one-small x h
 
 -- A line of a listing: its bytes, and that it is heard as what it tells.
 pub record Heard (l : List ℕ) (x : Line) : Type 0 where
-  pub kind : T (all fine l)
+  pub kind : T (allOf fine l)
   pub size : length l ≤ 32
   pub hears : heard l ≡ x
 
 pub hears-statement : (a : Statement Name) → Sayable a → Heard (told a) (Acts a)
-unfolding bigIn declares any
+unfolding bigIn declares anyOf
 hears-statement a h =
     let p = reads-statement a h in
     record { kind = p .kind; size = p .size; hears = heard-printed (told a) (Acts a) p (small a h) refl }
 
 pub hears-label : (w : Name) → T (userName w) → Heard (ascii "LB " ++ w) (Label w)
-unfolding bigIn declares any
+unfolding bigIn declares anyOf
 hears-label w t =
     let p = reads-label w t in
     record { kind = p .kind; size = p .size; hears = heard-printed (ascii "LB " ++ w) (Label w) p refl (rw (user-free w t)) }
 
 pub hears-declared : (w : Name) (z : ℤ) → T (userName w) → T (inRange literals z) → Heard (ascii "VA " ++ (w ++ (ascii "=" ++ plain z))) (Declared w z)
-unfolding bigIn declares any tooBig
+unfolding bigIn declares anyOf tooBig
 hears-declared w z t r =
     let p = reads-declared w z t r in
     record {

@@ -11,7 +11,7 @@ use lib.Dec.{T, T-not, eqb, leb, leb→le, eqb→eq}
 use lib.IntN.{pos, negsuc}
 use lib.ListN.{length, getD}
 use Rattle.numbers.specs.Bytes.{ascii}
-use Rattle.numbers.specs.Tests.{all, eqList, numbered}
+use Rattle.numbers.specs.Tests.{allOf, eqList, numbered}
 use Rattle.program.specs.Names.{Name, letter, digit, wordCharacter, variableNames, paperVariable, reserved, twoCharacters, userName}
 use Rattle.program.specs.Variables.{inRange, literals}
 use Rattle.program.specs.Statements.{Value, Literal, Variable}
@@ -25,13 +25,13 @@ use Rattle.listing.proofs.Literals.{literalTokens, literal-read, tokens
 
 -- A name of one or two characters of which the first is a letter.
 abbrev pub spelt : Name → Bool
-spelt w = letter (getD w 0 0) && (all wordCharacter w && leb (length w) 2)
+spelt w = letter (getD w 0 0) && (allOf wordCharacter w && leb (length w) 2)
 
 pub record Spelt (w : Name) : Type 0 where
-  pub word : T (all wordCharacter w)
+  pub word : T (allOf wordCharacter w)
   pub some : 0 < length w
   pub short : length w ≤ 2
-  pub no-digits : all digit w ≡ false
+  pub no-digits : allOf digit w ≡ false
 
 letter-no-digit : (c : ℕ) → T (letter c) → digit c ≡ false
 unfolding letter digit
@@ -42,15 +42,15 @@ letter-no-digit c t =
     omega arith)
 
 pub spelling : (w : Name) → T (spelt w) → Spelt w
-unfolding all letter
+unfolding allOf letter
 spelling [] t = absurd t
 spelling (c ∷ w) t =
-    let p = both (letter c) (all wordCharacter (c ∷ w) && leb (length (c ∷ w)) 2) t in
-    let q = both (all wordCharacter (c ∷ w)) (leb (length (c ∷ w)) 2) (p .1) in
+    let p = both (letter c) (allOf wordCharacter (c ∷ w) && leb (length (c ∷ w)) 2) t in
+    let q = both (allOf wordCharacter (c ∷ w)) (leb (length (c ∷ w)) 2) (p .1) in
     record { word = q .0; some = omega arith; short = leb→le (length (c ∷ w)) 2 (q .1); no-digits = rw (letter-no-digit c (p .0)) }
 
 pub two-spelt : (w : Name) → T (twoCharacters w) → Spelt w
-unfolding twoCharacters all letter wordCharacter digit
+unfolding twoCharacters allOf letter wordCharacter digit
 two-spelt [] t = absurd t
 two-spelt (a ∷ []) t = absurd t
 two-spelt (a ∷ b ∷ []) t =
@@ -77,7 +77,7 @@ not-zero zero t e = t
 not-zero (suc n) t e = omega arith
 
 pub variable-spelt : (w : Name) → T (variableName w) → Spelt w
-unfolding variableName paperVariable variableNames ascii all wordCharacter letter digit
+unfolding variableName paperVariable variableNames ascii allOf wordCharacter letter digit
 variable-spelt w t =
     ⊎-elim
     (λ p. spelling w (numbered-all spelt variableNames w tt (not-zero (paperVariable w) p)))
@@ -92,7 +92,7 @@ variable-is-not w m t n = is-no (eqList w m) (λ e. T-not (variableName m) n (su
 pub tokens-name : (w rest : List ℕ) → Spelt w → Stops rest → tokens (w ++ rest) ≡ token w (follows rest) ∷ tokens rest
 tokens-name w rest s e = tokens-word w rest (s .word) (s .some) e
 
-pub name-fine : (w : Name) → Spelt w → T (all fine w)
+pub name-fine : (w : Name) → Spelt w → T (allOf fine w)
 name-fine w s = all-then wordCharacter fine word-fine w (s .word)
 
 -- An operand as it is printed; one that a text can have; its tokens in front of others.
@@ -122,7 +122,7 @@ pub tokens-value : (x : Value Name) (rest : List ℕ) → Sound x → Stops rest
 tokens-value (Literal z) rest h e = tokens-literal z rest e
 tokens-value (Variable w) rest h e = tokens-name w rest (variable-spelt w h) e
 
-pub value-fine : (x : Value Name) → Sound x → T (all fine (valueTold x))
+pub value-fine : (x : Value Name) → Sound x → T (allOf fine (valueTold x))
 value-fine (Literal z) h = literal-fine z
 value-fine (Variable w) h = name-fine w (variable-spelt w h)
 
@@ -135,11 +135,11 @@ pub record Starts (l : List ℕ) : Type 0 where
   pub no-equals : eqb (getD l 0 32) 61 ≡ false
   pub no-more : eqb (getD l 0 32) 62 ≡ false
 
-pub word-starts : (w rest : List ℕ) → T (all wordCharacter w) → 0 < length w → Starts (w ++ rest)
-unfolding all wordCharacter letter digit
+pub word-starts : (w rest : List ℕ) → T (allOf wordCharacter w) → 0 < length w → Starts (w ++ rest)
+unfolding allOf wordCharacter letter digit
 word-starts [] rest h l = absurd (omega arith)
 word-starts (c ∷ w) rest h l =
-    let t = both (wordCharacter c) (all wordCharacter w) h .0 in
+    let t = both (wordCharacter c) (allOf wordCharacter w) h .0 in
     record { no-equals = word-is-not c 61 t tt; no-more = word-is-not c 62 t tt }
 
 pub value-starts : (x : Value Name) (rest : List ℕ) → Sound x → Starts (valueTold x ++ rest)

@@ -2,13 +2,13 @@
 -- VA lines first, each label just before its target cell, a target by its first label, plain decimal, LF endings.
 -- Assumes nothing.
 use mathlib.Core.Bool.{cond}
-use mathlib.Core.List.{List, [], _∷_, _++_}
+use mathlib.Core.List.{List, [], _∷_, _++_, flatMap}
 use Prim.Native.Nat.{ℕ, zero, suc, _+_, _-_, _/_, _%_, _^_}
 use lib.Dec.{eqb, ltb}
 use lib.IntN.{ℤ, pos, negsuc}
 use lib.ListN.{getD}
 use Rattle.numbers.specs.Bytes.{ascii}
-use Rattle.numbers.specs.Tests.{firstBelow, listed, joined}
+use Rattle.numbers.specs.Tests.{firstBelow, listed}
 use Rattle.program.specs.Names.{Name, variableNames}
 use Rattle.program.specs.Statements.{Value, Literal, Variable, Condition, Always, Compare, Statement, Set, SetWith, IC, DC, BR, CL, RT, E, H, Hold, OE, Disarm, MA, MR, SL, PR}
 use Rattle.program.specs.Cells.{statementOf}
@@ -75,7 +75,7 @@ unfoldable pub labelLine : List ℕ → ℕ → ℕ → List ℕ
 labelLine s target k = cond (eqb (labelTarget s k) target) (line (ascii "LB " ++ nameAt s (labelPlace s k))) []
 
 unfoldable pub labelLines : List ℕ → ℕ → List ℕ
-labelLines s target = joined (labelLine s target) (listed 0 (labelCount s) (λ k. k))
+labelLines s target = flatMap (labelLine s target) (listed 0 (labelCount s) (λ k. k))
 
 unfoldable pub cellLines : List ℕ → ℕ → List ℕ
 cellLines s k = labelLines s k ++ line (statementText s (statementOf (cellAt s k)))
@@ -83,5 +83,5 @@ cellLines s k = labelLines s k ++ line (statementText s (statementOf (cellAt s k
 -- The listing of an image.
 unfoldable pub listing : List ℕ → List ℕ
 listing s =
-    joined (variableLine s) (listed 0 (variableCount s) (λ k. k))
-    ++ (joined (cellLines s) (listed 0 (cellCount s) (λ k. k)) ++ labelLines s (cellCount s))
+    flatMap (variableLine s) (listed 0 (variableCount s) (λ k. k))
+    ++ (flatMap (cellLines s) (listed 0 (cellCount s) (λ k. k)) ++ labelLines s (cellCount s))

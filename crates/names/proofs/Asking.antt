@@ -7,7 +7,7 @@ use Prim.Native.Nat.{ℕ, _<_}
 use native.Mathlib.Omega.{arith}
 use borrow.Author.Tests.{eq-eqb, ne-eqb}
 use lib.Dec.{eqb}
-use Rattle.numbers.specs.Tests.{any, lowest}
+use Rattle.numbers.specs.Tests.{anyOf, lowest}
 use Rattle.program.specs.Names.{Name, paperVariable}
 use Rattle.program.specs.Code.{key, nameOf}
 use Rattle.program.specs.Cells as Cells
@@ -63,7 +63,7 @@ keyed-variable o k e h = rw e at h
 -- A name that a line before declares.
 pub name-sought : (s : List ℕ) (kind k f : ℕ) → declaring kind ≡ true → DeclaredAs s k f → not (eqb f 0) ≡ repeatedKey (said s) kind k
 unfolding repeatedKey
-name-sought s kind k f d a = rw (d, a .none) (Bool·not-not (any (declaresIt (nameOf k)) (said s)))
+name-sought s kind k f d a = rw (d, a .none) (Bool·not-not (anyOf (declaresIt (nameOf k)) (said s)))
 
 -- The lowest fault of a line by the tests of its reading.
 module _ (text before : List Line) (n : Counts) (r : Reading) where

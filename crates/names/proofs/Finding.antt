@@ -9,13 +9,13 @@ use native.Mathlib.Nat.{add-zero}
 use borrow.Author.Tests.{eqb-true, eqb-false}
 use lib.Dec.{eqb}
 use lib.ListN.{length, take, drop}
-use Rattle.numbers.specs.Tests.{eqList, any, lowest}
+use Rattle.numbers.specs.Tests.{eqList, anyOf, lowest}
 use Rattle.program.specs.Names.{Name}
 use Rattle.program.specs.Code.{key, nameOf}
 use Rattle.program.proofs.Keys.{name-key, eq-name, user-word}
 use Rattle.text.specs.Forms.{Line, Blank, Label, Declared, Acts}
 use Rattle.text.specs.Lines.{lines}
-use Rattle.text.specs.Faults.{heard, said, declares, declaresIt, makesLabel, makesVariable, firstMakes, placeOf, rankOf, faults, faultFrom, firstFault}
+use Rattle.text.specs.Faults.{heard, said, declares, declaresIt, makesLabel, makesVariable, firstMakes, placeOf, rankOf, faults, firstFrom, faultsFrom, textFaults, firstFault}
 use Rattle.text.specs.Code.{saidBy, readingOf, LineAt}
 use Rattle.text.specs.declared.Span.{Span}
 use Rattle.text.specs.declared.forms.Reading.{Reading}
@@ -43,7 +43,7 @@ named-by : (k : ℕ) (w : Name) → w ≡ nameOf (key w) → (eqList (nameOf k) 
 named-by k w e = or-false (eqList (nameOf k) w) ∙ ap (eqList (nameOf k)) e ∙ eq-name k (key w) ∙ eqb-turn k (key w)
 
 pub declares-by : (k : ℕ) (x : Line) → Fine x → declaresIt (nameOf k) x ≡ (declaring (saidBy x .kind) && eqb (saidBy x .name) k)
-unfolding declaresIt declares declaring saidBy any
+unfolding declaresIt declares declaring saidBy anyOf
 declares-by k Blank f = refl
 declares-by k (Label w) f = named-by k w (sym (name-key w (user-word w f)))
 declares-by k (Declared w z) f = named-by k w (sym (name-key w (user-word w (f .0))))
@@ -51,7 +51,7 @@ declares-by k (Acts s) f = refl
 
 -- A line that declares a name has a kind.
 declared-kind : (w : Name) (x : Line) → declaresIt w x ≡ true → eqb (saidBy x .kind) 0 ≡ false
-unfolding saidBy declaresIt declares any
+unfolding saidBy declaresIt declares anyOf
 declared-kind w Blank e = sym e
 declared-kind w (Label v) e = refl
 declared-kind w (Declared v z) e = refl
@@ -66,7 +66,7 @@ plus-add false c n = refl
 pub record KindIs (w : Name) (xs : List Line) (kind : ℕ) : Type 0 where
   pub label : eqb kind 1 ≡ firstMakes makesLabel w xs
   pub variable : eqb kind 2 ≡ firstMakes makesVariable w xs
-  pub none : eqb kind 0 ≡ not (any (declaresIt w) xs)
+  pub none : eqb kind 0 ≡ not (anyOf (declaresIt w) xs)
 
 -- So do the cells and variables before it, with so many before these lines.
 pub record FoundIs (w : Name) (cells variables : ℕ) (xs : List Line) (f : Found) : Type 0 where
@@ -78,7 +78,7 @@ module _ (k : ℕ) (x : Line) (xs : List Line) where
   w = nameOf k
 
   kind-step : (b : Bool) → declaresIt w x ≡ b → (declaring (saidBy x .kind) && eqb (saidBy x .name) k) ≡ b → KindIs w xs (kindFrom k xs) → KindIs w (x ∷ xs) (kindFrom k (x ∷ xs))
-  unfolding kindFrom firstMakes any
+  unfolding kindFrom firstMakes anyOf
   kind-step true d e ih =
       record { label = rw (d, e) (sym (label-kind x)); variable = rw (d, e) (sym (variable-kind x)); none = rw (d, e) (declared-kind w x d) }
   kind-step false d e ih = record { label = rw (d, e) (ih .label); variable = rw (d, e) (ih .variable); none = rw (d, e) (ih .none) }
@@ -95,7 +95,7 @@ module _ (k : ℕ) (x : Line) (xs : List Line) where
       }
 
 kind-is : (k : ℕ) (xs : List Line) → AllFine xs → KindIs (nameOf k) xs (kindFrom k xs)
-unfolding kindFrom firstMakes any
+unfolding kindFrom firstMakes anyOf
 kind-is k [] f = record { label = refl; variable = refl; none = refl }
 kind-is k (x ∷ xs) f = kind-step k x xs (declaresIt (nameOf k) x) refl (sym (declares-by k x (f .0))) (kind-is k xs (f .1))
 
@@ -219,18 +219,18 @@ clear-line text before l e = pick (eqb (readingOf l .fault) 0) refl
     pick true p = eqb-true (readingOf l .fault) 0 p
     pick false p = rw (line-fault text before l, p) at e
 
-clear-from : (text : List Line) (line : ℕ) (before : List Line) (ls : List (List ℕ)) → faultFrom text line before ls .number ≡ 0 → AllClear ls
-unfolding faultFrom
+clear-from : (text : List Line) (line : ℕ) (before : List Line) (ls : List (List ℕ)) → firstFrom line (faultsFrom text before ls) .number ≡ 0 → AllClear ls
+unfolding firstFrom faultsFrom
 clear-from text line before [] e = tt
 clear-from text line before (l ∷ ls) e = pick (eqb (lowest 2 (faults text before l)) 0) refl (λ f. clear-from text (suc line) (before ++ (heard l ∷ [])) ls f)
   where
-    pick : (b : Bool) → eqb (lowest 2 (faults text before l)) 0 ≡ b → (faultFrom text (suc line) (before ++ (heard l ∷ [])) ls .number ≡ 0 → AllClear ls)
+    pick : (b : Bool) → eqb (lowest 2 (faults text before l)) 0 ≡ b → (firstFrom (suc line) (faultsFrom text (before ++ (heard l ∷ [])) ls) .number ≡ 0 → AllClear ls)
         → (readingOf l .fault ≡ 0) × AllClear ls
     pick true p ih = (clear-line text before l (eqb-true _ 0 p), ih (rw p at e))
     pick false p ih = absurd (eqb-false (lowest 2 (faults text before l)) 0 p (rw p at e))
 
 pub all-clear : (s : List ℕ) → firstFault s .number ≡ 0 → AllClear (lines s)
-unfolding firstFault
+unfolding firstFault textFaults
 all-clear s e = clear-from (said s) 1 [] (lines s) e
 
 pub clear-line-at : (s : List ℕ) (at : ℕ) (r : Span) → LineAt s at r → AllClear (lines (drop at s))

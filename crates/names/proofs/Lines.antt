@@ -12,7 +12,7 @@ use Rattle.program.specs.Names.{Name}
 use Rattle.text.specs.Lines as Paper
 use Rattle.text.specs.Lines.{lines}
 use Rattle.text.specs.Forms.{Line}
-use Rattle.text.specs.Faults.{heard, said, declaresIt, makesCell, makesLabel, makesVariable, count, placeOf, rankOf}
+use Rattle.text.specs.Faults.{heard, said, declaresIt, makesCell, makesLabel, makesVariable, howMany, placeOf, rankOf}
 use Rattle.text.specs.Code.{saidBy, Starts, LineAt}
 use Rattle.text.specs.declared.Span.{Span}
 use Rattle.text.proofs.Lines.{lines-next, lines-end}
@@ -78,10 +78,10 @@ few-ranks w [] = omega arith
 few-ranks w (x ∷ xs) = step-few (declaresIt w x) (makesVariable x) (rankOf xs w) (length xs) (few-ranks w xs)
 
 -- Counting one line more at the end.
-pub count-more : (p : Line → Bool) (xs : List Line) (x : Line) → count p (xs ++ (x ∷ [])) ≡ plus (p x) (count p xs)
-unfolding count plus
+pub count-more : (p : Line → Bool) (xs : List Line) (x : Line) → howMany p (xs ++ (x ∷ [])) ≡ plus (p x) (howMany p xs)
+unfolding howMany plus
 count-more p [] x = refl
-count-more p (y ∷ ys) x = rw (count-more p ys x) (swap (p y) (p x) (count p ys))
+count-more p (y ∷ ys) x = rw (count-more p ys x) (swap (p y) (p x) (howMany p ys))
   where
     swap : (a b : Bool) (n : ℕ) → cond a (suc (cond b (suc n) n)) (cond b (suc n) n) ≡ cond b (suc (cond a (suc n) n)) (cond a (suc n) n)
     swap true true n = refl
@@ -95,12 +95,12 @@ counted-more xs x =
     rw (count-more makesCell xs x, count-more makesLabel xs x, count-more makesVariable xs x, cell-kind x, label-kind x, variable-kind x)
 
 -- No test counts more lines than there are.
-pub count-most : (p : Line → Bool) (xs : List Line) → count p xs ≤ length xs
-unfolding count
+pub count-most : (p : Line → Bool) (xs : List Line) → howMany p xs ≤ length xs
+unfolding howMany
 count-most p [] = omega arith
 count-most p (x ∷ xs) = go (p x) (count-most p xs)
   where
-    go : (b : Bool) → count p xs ≤ length xs → cond b (suc (count p xs)) (count p xs) ≤ suc (length xs)
+    go : (b : Bool) → howMany p xs ≤ length xs → cond b (suc (howMany p xs)) (howMany p xs) ≤ suc (length xs)
     go true h = omega arith
     go false h = omega arith
 

@@ -12,7 +12,7 @@ use lib.IntN.{ℤ, pos}
 use lib.ListN.{length, take, drop, getD, drop-of-length-le}
 use lib.Seq.{drop-cons, drop-drop}
 use Rattle.numbers.specs.Bytes.{ascii, number, field}
-use Rattle.numbers.specs.Tests.{eqList, numbered, all, any, lowest}
+use Rattle.numbers.specs.Tests.{eqList, numbered, allOf, anyOf, lowest}
 use Rattle.program.specs.Names.{Name, letter, digit, wordCharacter, mnemonics, variableNames, paperVariable, reserved, twoCharacters, userName}
 use Rattle.program.specs.Code.{key}
 use Rattle.program.specs.Statements.{Statement}
@@ -24,7 +24,7 @@ use Rattle.text.specs.Code.{saidBy, readingOf}
 use Rattle.text.proofs.Words.{variable-word}
 use Rattle.text.proofs.Filling.{goOn}
 use Rattle.text.proofs.Rows.{HoldsAt, Filled, done, step, nothing, started, filled}
-use Rattle.text.specs.Tokens.{printable, Token, uncommented, joins, longer, tokens}
+use Rattle.text.specs.Tokens.{printable, Token, uncommented, joins, ontoFirstToken, tokens}
 use Rattle.text.proofs.Packing.{joins-space}
 use Rattle.names.specs.Code.{spaces, head, kindBy, keyAfter, headBy, headOf, declaring}
 
@@ -49,7 +49,7 @@ module _ (c : ℕ) (cs : List ℕ) where
   unfolding tokens
   token-alone e f = rw (e, f)
 
-  token-longer : eqb c 32 ≡ false → joins c (getD cs 0 32) ≡ true → tokens (c ∷ cs) ≡ longer c (tokens cs)
+  token-longer : eqb c 32 ≡ false → joins c (getD cs 0 32) ≡ true → tokens (c ∷ cs) ≡ ontoFirstToken c (tokens cs)
   unfolding tokens
   token-longer e f = rw (e, f)
 
@@ -102,7 +102,7 @@ module _ (c : ℕ) (cs : List ℕ) (t : Token) (ts : List Token) where
       }
 
 pub opened : (l : List ℕ) (t : Token) (ts : List Token) → tokens (uncommented l) ≡ t ∷ ts → Opened l t ts
-unfolding uncommented tokens longer
+unfolding uncommented tokens ontoFirstToken
 opened [] t ts h = absurd (nothing-first h)
 opened (c ∷ cs) t ts h = pick (eqb c 39) (eqb c 32) (joins c (getD (uncommented cs) 0 32)) refl refl refl (λ u us. opened cs u us)
   where
@@ -116,7 +116,7 @@ opened (c ∷ cs) t ts h = pick (eqb c 39) (eqb c 32) (joins c (getD (uncommente
         opened-alone c cs t ts q (first-chars e) (first-rest e)
     pick false false true p q r ih = joined (tokens (uncommented cs)) refl (sym (token-longer c (uncommented cs) q r) ∙ ap tokens (sym (code-goes c cs p)) ∙ h)
       where
-        joined : (us : List Token) → tokens (uncommented cs) ≡ us → longer c us ≡ t ∷ ts → Opened (c ∷ cs) t ts
+        joined : (us : List Token) → tokens (uncommented cs) ≡ us → ontoFirstToken c us ≡ t ∷ ts → Opened (c ∷ cs) t ts
         joined [] e f = absurd (nothing-first f)
         joined (u ∷ us) e f = opened-joined c cs t ts u q r (first-chars f) (ih u ts (e ∙ ap (λ (z : List Token). u ∷ z) (first-rest f)))
 
@@ -297,15 +297,15 @@ statement-opens (t ∷ ts) = forms-open all-fit t ts
 
 reading-opens : (l : List ℕ) → LineAt (λ x. Opening x (tokens (uncommented l))) (reading l)
 unfolding reading
-reading-opens l = pick (all printable l)
+reading-opens l = pick (allOf printable l)
   where
     pick : (b : Bool) → LineAt (λ x. Opening x (tokens (uncommented l))) (cond b (statement (tokens (uncommented l))) none)
     pick true = statement-opens (tokens (uncommented l))
     pick false = tt
 
 -- A line without tokens is blank, but for a comment.
-longer-some : (c : ℕ) (ts : List Token) → (ts ≡ [] → ⊥) → longer c ts ≡ [] → ⊥
-unfolding longer
+longer-some : (c : ℕ) (ts : List Token) → (ts ≡ [] → ⊥) → ontoFirstToken c ts ≡ [] → ⊥
+unfolding ontoFirstToken
 longer-some c [] f e = f refl
 longer-some c (t ∷ ts) f e = nothing-first (sym e)
 
@@ -408,12 +408,12 @@ fine-head l = pick (reading l) (heads l) (longLine l)
     none-fine false e = no 3 (omega arith) e
 
     pick : (o : Option Line) → LineAt (Headed l) o → (long : Bool)
-        → lowest 2 (long ∷ (elim o [ none ↦ true | some x ↦ false ]) ∷ (elim o [ none ↦ false | some x ↦ bigIn x ]) ∷ (elim o [ none ↦ false | some x ↦ any reserved (declares x) ]) ∷ []) ≡ 0
-        → let y = cond (long || ((elim o [ none ↦ true | some x ↦ false ]) || ((elim o [ none ↦ false | some x ↦ bigIn x ]) || (elim o [ none ↦ false | some x ↦ any reserved (declares x) ]))))
+        → lowest 2 (long ∷ (elim o [ none ↦ true | some x ↦ false ]) ∷ (elim o [ none ↦ false | some x ↦ bigIn x ]) ∷ (elim o [ none ↦ false | some x ↦ anyOf reserved (declares x) ]) ∷ []) ≡ 0
+        → let y = cond (long || ((elim o [ none ↦ true | some x ↦ false ]) || ((elim o [ none ↦ false | some x ↦ bigIn x ]) || (elim o [ none ↦ false | some x ↦ anyOf reserved (declares x) ]))))
         Blank (elim o [ none ↦ Blank | some x ↦ x ]) in
         (headOf l .kind ≡ saidBy y .kind) × (declaring (saidBy y .kind) ≡ true → headOf l .name ≡ saidBy y .name)
     pick none h long e = absurd (none-fine long e)
-    pick (some x) h long e = some-fine x h long (bigIn x) (any reserved (declares x)) e
+    pick (some x) h long e = some-fine x h long (bigIn x) (anyOf reserved (declares x)) e
 
 -- Spaces passed one by one.
 module _ (l : List ℕ) (i : ℕ) where

@@ -9,7 +9,7 @@ use borrow.Author.Tests.{eq-eqb, ne-eqb}
 use lib.ListN.{length, take, drop}
 use Rattle.numbers.specs.Tests.{lowest}
 use Rattle.text.specs.Lines.{lines}
-use Rattle.text.specs.Faults.{heard, said, count, makesCell, makesLabel, makesVariable, faults, fault, faultFrom, firstFault}
+use Rattle.text.specs.Faults.{heard, said, howMany, makesCell, makesLabel, makesVariable, faults, fault, firstFrom, faultsFrom, textFaults, firstFault}
 use Rattle.text.specs.Code.{Starts, LineAt, readingOf}
 use Rattle.text.specs.declared.Span.{Span}
 use Rattle.text.specs.declared.forms.Reading.{Reading}
@@ -26,10 +26,10 @@ pub record Passed (s : List ℕ) (n : Counts) (line at : ℕ) : Type 0 where
   pub near : at ≤ length s + 1
   pub numbered : line ≤ at + 1
   pub counts : n ≡ countsOf (said (take at s))
-  pub left : faultFrom (said s) line (said (take at s)) (lines (drop at s)) ≡ firstFault s
+  pub left : firstFrom line (faultsFrom (said s) (said (take at s)) (lines (drop at s))) ≡ firstFault s
 
 pub passed-first : (s : List ℕ) → Passed s (record { cells = 0; labels = 0; variables = 0 }) 1 0
-unfolding countsOf count firstFault
+unfolding countsOf howMany firstFault textFaults
 passed-first s =
     record {
       starts = starts-first s;
@@ -69,7 +69,7 @@ module _ (s : List ℕ) (n : Counts) (line at : ℕ) (p : Passed s n line at) wh
     lowest-here = sym (g ∙ rw (p .counts, e) (fault-by (said s) (said (take at s)) here))
 
     pub passed-more : (m : Counts) → f ≡ 0 → m ≡ counted n (q .kind) → Passed s m (line + 1) (r .next)
-    unfolding faultFrom
+    unfolding firstFrom faultsFrom
     passed-more m z c =
         record {
           starts = l .starts;
@@ -80,12 +80,12 @@ module _ (s : List ℕ) (n : Counts) (line at : ℕ) (p : Passed s n line at) wh
         }
 
     pub fault-here : (f ≡ 0 → ⊥) → Surveyed s (record { fault = fault f line; counts = n })
-    unfolding faultFrom
+    unfolding firstFrom faultsFrom
     fault-here z =
         let first : fault f line ≡ firstFault s = rw (l .cut, lowest-here, ne-eqb f 0 z) at (p .left) in
         record { fault = first; counts = λ h. absurd (z (ap (λ x. x .number) first ∙ h)) }
 
   pub fault-none : length s ≤ at → Surveyed s (record { fault = fault 0 0; counts = n })
-  unfolding faultFrom
+  unfolding firstFrom faultsFrom
   fault-none h =
       record { fault = rw (lines-end s at h) at (p .left); counts = λ z. p .counts ∙ ap countsOf (said-all s at h) }

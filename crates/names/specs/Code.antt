@@ -7,7 +7,7 @@ use Prim.Native.Nat.{ℕ, suc, _≤_, _<_}
 use lib.Dec.{eqb, leb}
 use lib.ListN.{length, take, drop}
 use Rattle.numbers.specs.Bytes.{number}
-use Rattle.numbers.specs.Tests.{any, lowest}
+use Rattle.numbers.specs.Tests.{anyOf, lowest}
 use Rattle.program.specs.Names.{paperVariable}
 use Rattle.program.specs.Variables.{readOnly, mostCells, mostLabels, mostVariables}
 use Rattle.program.specs.Code.{nameOf}
@@ -15,7 +15,7 @@ use Rattle.program.specs.declared.Cell.{Cell}
 use Rattle.program.specs.declared.Operand.{Operand}
 use Rattle.program.specs.declared.Operand.the-variants as O
 use Rattle.text.specs.Forms.{Line}
-use Rattle.text.specs.Faults.{said, firstFault, declaresIt, count, makesCell, makesLabel, makesVariable, firstMakes, placeOf, rankOf, unknownVariable, unknownValue}
+use Rattle.text.specs.Faults.{said, firstFault, declaresIt, howMany, makesCell, makesLabel, makesVariable, firstMakes, placeOf, rankOf, unknownVariable, unknownValue}
 use Rattle.text.specs.Code.{saidBy, readingOf, aimsAt, inOperand}
 use Rattle.text.specs.declared.forms.Reading.{Reading}
 use Rattle.names.specs.declared.Found.{Found}
@@ -79,7 +79,7 @@ foundFrom k cells variables (x ∷ xs) =
 pub record DeclaredAs (s : List ℕ) (k kind : ℕ) : Type 0 where
   pub label : eqb kind 1 ≡ firstMakes makesLabel (nameOf k) (said s)
   pub variable : eqb kind 2 ≡ firstMakes makesVariable (nameOf k) (said s)
-  pub none : eqb kind 0 ≡ not (any (declaresIt (nameOf k)) (said s))
+  pub none : eqb kind 0 ≡ not (anyOf (declaresIt (nameOf k)) (said s))
 
 -- What seeking a name in a text finds: the paper's places, and no more than the text has bytes.
 pub record FoundAt (s : List ℕ) (k : ℕ) (f : Found) : Type 0 where
@@ -118,7 +118,7 @@ readOnlyKey k = not (eqb k 0) && readOnly (paperVariable (nameOf k))
 
 -- A line of this kind declares the name with this key behind a line that does.
 unfoldable pub repeatedKey : List Line → ℕ → ℕ → Bool
-repeatedKey before kind k = declaring kind && any (declaresIt (nameOf k)) before
+repeatedKey before kind k = declaring kind && anyOf (declaresIt (nameOf k)) before
 
 -- A line of this kind is one too many behind lines with these counts.
 unfoldable pub tooManyBy : Counts → ℕ → Bool
@@ -128,7 +128,7 @@ tooManyBy n kind =
 
 -- The counts of some lines, and the counts with one more line of this kind.
 unfoldable pub countsOf : List Line → Counts
-countsOf xs = record { cells = count makesCell xs; labels = count makesLabel xs; variables = count makesVariable xs }
+countsOf xs = record { cells = howMany makesCell xs; labels = howMany makesLabel xs; variables = howMany makesVariable xs }
 
 unfoldable pub counted : Counts → ℕ → Counts
 counted n kind =

@@ -132,7 +132,7 @@ fn is_unknown_variable(s: &[u8], key: u16) -> bool
 fn is_unknown_target(s: &[u8], target: u16) -> bool
     ensures { λ r. ⌜ r ≡ unknownTarget (said (now (s .entry))) target ⌝ }
 {
-    if (target == NO_NAME) | (target == Cell::NO_HANDLER) {
+    if (target == NO_NAME) | (target == Cell::NO_TARGET) {
         return false;
     }
     declared_as(s, target) != Reading::LABEL

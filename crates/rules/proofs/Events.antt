@@ -9,7 +9,7 @@ use native.Mathlib.Omega.{arith}
 use lib.Dec.{T, eqb, leb, eqb→eq, leb→le}
 use lib.IntN.{ℤ, pos}
 use lib.ListN.{set}
-use Rattle.numbers.specs.Tests.{all, anyBelow, between, eqZ, listed}
+use Rattle.numbers.specs.Tests.{allOf, anyBelow, between, eqZ, listed}
 use Rattle.program.specs.Variables.{inRange, literals, rangeOf}
 use Rattle.program.proofs.Keys.{both, both-of, either}
 use Rattle.machine.specs.declared.Machine.{Machine}
@@ -82,21 +82,21 @@ module _ {cells variables : ℕ} {holds : ℕ → Bool} where
   ruled-event e m good r = by-kind e m (kinds-of e good) r
 
   -- Turn 7: so do all events of a turn.
-  pub ruled-reach : (t : ℕ) (es : List Event) (m : Machine) → T (all goodEvent es) → Ruled cells variables holds m → Ruled cells variables holds (reach t es m .machine)
-  unfolding reach all
+  pub ruled-reach : (t : ℕ) (es : List Event) (m : Machine) → T (allOf goodEvent es) → Ruled cells variables holds m → Ruled cells variables holds (reach t es m .machine)
+  unfolding reach allOf
   ruled-reach t [] m good r = r
   ruled-reach t (e ∷ es) m good r =
-      let g = both (goodEvent e) (all goodEvent es) good in
+      let g = both (goodEvent e) (allOf goodEvent es) good in
       chosen (λ (x : Reached). Ruled cells variables holds (x .machine)) (eqb (e .turn) t)
       (λ k. ruled-reach t es (happens e m) (g .1) (ruled-event e m (g .0) r)) (λ k. r)
 
 -- The events left are good again.
-pub good-left : (t : ℕ) (es : List Event) (m : Machine) → T (all goodEvent es) → T (all goodEvent (reach t es m .left))
-unfolding reach all
+pub good-left : (t : ℕ) (es : List Event) (m : Machine) → T (allOf goodEvent es) → T (allOf goodEvent (reach t es m .left))
+unfolding reach allOf
 good-left t [] m good = tt
 good-left t (e ∷ es) m good =
-    chosen (λ (x : Reached). T (all goodEvent (x .left))) (eqb (e .turn) t)
-    (λ k. good-left t es (happens e m) (both (goodEvent e) (all goodEvent es) good .1)) (λ k. good)
+    chosen (λ (x : Reached). T (allOf goodEvent (x .left))) (eqb (e .turn) t)
+    (λ k. good-left t es (happens e m) (both (goodEvent e) (allOf goodEvent es) good .1)) (λ k. good)
 
 -- Events leave the next cell.
 next-arrived : (motion : Motion) (m : Machine) → arrivedBy motion m .next ≡ m .next
@@ -129,10 +129,10 @@ not-not : (x : Bool) → T (not (not x)) → T x
 not-not true t = tt
 not-not false t = t
 
-all-listed : {A : Type 0} (p : A → Bool) (f : ℕ → A) (from n : ℕ) → ((k : ℕ) → k < from + n → T (p (f k))) → T (all p (listed from n f))
-unfolding all listed
+all-listed : {A : Type 0} (p : A → Bool) (f : ℕ → A) (from n : ℕ) → ((k : ℕ) → k < from + n → T (p (f k))) → T (allOf p (listed from n f))
+unfolding allOf listed
 all-listed p f from zero h = tt
-all-listed p f from (suc n) h = both-of (p (f from)) (all p (listed (suc from) n f)) (h from (omega arith)) (all-listed p f (suc from) n (λ k l. h k (omega arith)))
+all-listed p f from (suc n) h = both-of (p (f from)) (allOf p (listed (suc from) n f)) (h from (omega arith)) (all-listed p f (suc from) n (λ k l. h k (omega arith)))
 
 none-below : (n : ℕ) (p : ℕ → Bool) → T (not (anyBelow n p)) → (k : ℕ) → k < n → T (not (p k))
 unfolding anyBelow
@@ -141,7 +141,7 @@ none-below (suc n) p t k h =
     let b = neither (anyBelow n p) (p n) t in
     if-same k n (λ e. subst (λ (i : ℕ). T (not (p i))) (sym e) (b .1)) (λ o. none-below n p (b .0) k (omega arith))
 
-pub good-events : (s : List ℕ) → T (not (badEvents s)) → T (all goodEvent (events s))
+pub good-events : (s : List ℕ) → T (not (badEvents s)) → T (allOf goodEvent (events s))
 unfolding badEvents badEvent events
 good-events s t =
     all-listed goodEvent (eventAt s) 0 (eventCount s)

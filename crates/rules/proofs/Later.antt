@@ -7,7 +7,7 @@ use Prim.Native.Nat.{ℕ, zero, suc, _+_, _≤_, _<_}
 use native.Mathlib.Omega.{arith}
 use borrow.Author.Tests.{ne-eqb}
 use lib.Dec.{T, eqb, leb, leb→le}
-use Rattle.numbers.specs.Tests.{all}
+use Rattle.numbers.specs.Tests.{allOf}
 use Rattle.program.proofs.Keys.{both}
 use Rattle.effects.specs.declared.Effect.{Effect}
 use Rattle.machine.specs.declared.Machine.{Machine}
@@ -30,17 +30,17 @@ same-unless n false x f h = f h
 
 -- Every event is of this turn or of a later one.
 abbrev From : ℕ → List Event → Type 0
-From n es = T (all (λ (e : Event). leb n (e .turn)) es)
+From n es = T (allOf (λ (e : Event). leb n (e .turn)) es)
 
 abbrev before : List Event → Reached → Reached
 before later r = record { machine = r .machine; left = r .left ++ later }
 
 module _ (n : ℕ) (later : List Event) (late : From n later) where
   none-reached : (t : ℕ) (m : Machine) (es : List Event) → From n es → t < n → reach t es m ≡ record { machine = m; left = es }
-  unfolding reach all
+  unfolding reach allOf
   none-reached t m [] l h = refl
   none-reached t m (e ∷ es) l h =
-      let k = leb→le n (e .turn) (both (leb n (e .turn)) (all (λ (e : Event). leb n (e .turn)) es) l .0) in
+      let k = leb→le n (e .turn) (both (leb n (e .turn)) (allOf (λ (e : Event). leb n (e .turn)) es) l .0) in
       rw (ne-eqb (e .turn) t (λ q. omega arith))
 
   reach-later : (t : ℕ) (es : List Event) (m : Machine) → t < n → reach t (es ++ later) m ≡ before later (reach t es m)
@@ -65,12 +65,12 @@ module _ (n : ℕ) (later : List Event) (late : From n later) where
 
 -- Events 3: no event at or after the turns that a run took is used, whether it ran past the last cell, was stopped by an error or used its budget.
 pub later-unused : (act : Machine → Effect) (cells left t : ℕ) (es later : List Event) (m : Machine)
-    → T (all (λ (e : Event). leb (runFrom act cells left t es m .turns) (e .turn)) later)
+    → T (allOf (λ (e : Event). leb (runFrom act cells left t es m .turns) (e .turn)) later)
     → runFrom act cells left t (es ++ later) m ≡ runFrom act cells left t es m
 later-unused act cells left t es later m late = run-later (runFrom act cells left t es m .turns) later late act cells left t es m (omega arith)
 
 -- Events 3: so none at or after the budget, however the run ends.
-pub past-budget-unused : (act : Machine → Effect) (cells left t : ℕ) (es later : List Event) (m : Machine) → T (all (λ (e : Event). leb (t + left) (e .turn)) later)
+pub past-budget-unused : (act : Machine → Effect) (cells left t : ℕ) (es later : List Event) (m : Machine) → T (allOf (λ (e : Event). leb (t + left) (e .turn)) later)
     → runFrom act cells left t (es ++ later) m ≡ runFrom act cells left t es m
 past-budget-unused act cells left t es later m late =
     run-later (t + left) later late act cells left t es m (run-bounded act cells left t es m .budget)

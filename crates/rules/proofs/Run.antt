@@ -5,7 +5,7 @@ use mathlib.Core.Bool.{Bool}
 use mathlib.Core.List.{List}
 use Prim.Native.Nat.{ℕ, zero, suc, _<_}
 use lib.Dec.{T, leb, nleb→lt}
-use Rattle.numbers.specs.Tests.{all}
+use Rattle.numbers.specs.Tests.{allOf}
 use Rattle.effects.specs.declared.Effect.{Effect}
 use Rattle.machine.specs.declared.Machine.{Machine}
 use Rattle.machine.specs.declared.Event.{Event}
@@ -28,7 +28,7 @@ module _ {R : Type 0} (cells variables : ℕ) (holds : ℕ → Bool) (place numb
       (ruled-turn cells variables holds place number (a .statement) m (a .good) r here (a .hold))
 
   -- Turn 3 to 7: the final state, whatever the budget.
-  pub ruled-run : (left t : ℕ) (es : List Event) (m : Machine) → T (all goodEvent es) → Ruled cells variables holds m
+  pub ruled-run : (left t : ℕ) (es : List Event) (m : Machine) → T (allOf goodEvent es) → Ruled cells variables holds m
       → Ruled cells variables holds (runFrom act cells left t es m .machine)
   unfolding runFrom
   ruled-run zero t es m good r = chosen (λ (c : Course). Ruled cells variables holds (c .machine)) (leb cells (m .next)) (λ k. r) (λ k. r)

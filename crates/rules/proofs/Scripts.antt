@@ -9,7 +9,7 @@ use lib.Dec.{T, leb}
 use lib.ListN.{length, drop, length-append, length-drop}
 use lib.Seq.{take-append-le, drop-append-le, drop-append-add}
 use Rattle.numbers.specs.Bytes.{field}
-use Rattle.numbers.specs.Tests.{all, listed}
+use Rattle.numbers.specs.Tests.{allOf, listed}
 use Rattle.effects.specs.declared.Effect.{Effect}
 use Rattle.machine.specs.declared.Machine.{Machine}
 use Rattle.machine.specs.declared.Event.{Event}
@@ -81,6 +81,6 @@ module _ (script more : List ℕ) (whole : length script % 12 ≡ 0) where
 
   -- Events 3: the bytes of events at or after the turns that a run took change nothing.
   pub later-bytes-unused : (act : Machine → Effect) (cells left t : ℕ) (m : Machine)
-      → T (all (λ (e : Event). leb (runFrom act cells left t (events script) m .turns) (e .turn)) (events more))
+      → T (allOf (λ (e : Event). leb (runFrom act cells left t (events script) m .turns) (e .turn)) (events more))
       → runFrom act cells left t (events (script ++ more)) m ≡ runFrom act cells left t (events script) m
   later-bytes-unused act cells left t m late = rw events-append (later-unused act cells left t (events script) (events more) m late)

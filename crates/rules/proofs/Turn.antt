@@ -9,7 +9,7 @@ use native.Mathlib.Omega.{arith}
 use lib.Dec.{T, eqb, leb, ltb, leb→le, ltb→lt, nltb→le, le→leb, T-not}
 use lib.IntN.{ℤ, pos, negsuc, natAbs}
 use lib.ListN.{set, getD}
-use Rattle.numbers.specs.Tests.{all, between, eqZ}
+use Rattle.numbers.specs.Tests.{allOf, between, eqZ}
 use Rattle.program.specs.Variables.{inRange, literals, rangeOf, present, readOnly}
 use Rattle.program.specs.Cells.{holdRange, slewRange, noTarget}
 use Rattle.program.specs.Statements.{Value, Statement, Set, SetWith, IC, DC, BR, CL, RT, E, H, Hold, OE, Disarm, MA, MR, SL, PR, writes, targets}
@@ -140,7 +140,7 @@ module _ (cells variables : ℕ) (holds : ℕ → Bool) (m : Machine) where
 
     pub sound-effect : (s : Statement R) → Good cells variables place number s → Ruled cells variables holds m → holds (m .next) ≡ isHold s
         → Sound (effect place number (m .variables) (m .kept) (m .hold) s)
-    unfolding effect isHold all writes targets
+    unfolding effect isHold allOf writes targets
     sound-effect (Set v x) g r e = fine-storing (no-hold r e) (number v) _ (first-written v (g .written))
     sound-effect (SetWith v x o y) g r e = fine-with (no-hold r e) (number v) o _ _ (first-written v (g .written))
     sound-effect (IC v) g r e = fine-result (no-hold r e) (number v) _ (first-written v (g .written))

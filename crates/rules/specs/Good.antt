@@ -4,7 +4,7 @@ use mathlib.Core.Path.{_≡_}
 use mathlib.Core.Bool.{Bool, true, false, _&&_, not}
 use Prim.Native.Nat.{ℕ}
 use lib.Dec.{T, leb}
-use Rattle.numbers.specs.Tests.{all}
+use Rattle.numbers.specs.Tests.{allOf}
 use Rattle.program.specs.Variables.{present, readOnly}
 use Rattle.program.specs.Statements.{Statement, Set, SetWith, IC, DC, BR, CL, RT, E, H, Hold, OE, Disarm, MA, MR, SL, PR, writes, targets}
 use Rattle.effects.specs.declared.Effect.{Effect}
@@ -37,8 +37,8 @@ writable variables v = present variables v && not (readOnly v)
 
 -- Image 9, Variables 1: each label named has a place that is at most the cell count, each variable written is there and not read-only.
 pub record Good {R : Type 0} (cells variables : ℕ) (place number : R → ℕ) (s : Statement R) : Type 0 where
-  pub named : T (all (λ (n : R). leb (place n) cells) (targets s))
-  pub written : T (all (λ (v : R). writable variables (number v)) (writes s))
+  pub named : T (allOf (λ (n : R). leb (place n) cells) (targets s))
+  pub written : T (allOf (λ (v : R). writable variables (number v)) (writes s))
 
 -- Turn 7: at this machine a good statement acts, an `H x` exactly where `holds` says so.
 pub record Acts {R : Type 0} (cells variables : ℕ) (holds : ℕ → Bool) (place number : R → ℕ) (act : Machine → Effect) (m : Machine) : Type 0 where

@@ -2,7 +2,7 @@
 -- Assumes nothing.
 use mathlib.Core.Path.{_≡_, refl, sym, ap, _∙_}
 use mathlib.Core.Bool.{Bool, true, false, cond}
-use mathlib.Core.List.{List, [], _∷_, _++_, append-assoc, append-nil}
+use mathlib.Core.List.{List, [], _∷_, _++_, append-assoc, append-nil, flatMap}
 use Prim.Native.Nat.{ℕ, zero, suc, _+_, _*_, _-_, _≤_, _<_}
 use native.Mathlib.Nat.{sub-zero}
 use native.Mathlib.Numerals.{add-one}
@@ -12,7 +12,6 @@ use lib.Dec.{leb}
 use lib.ListN.{length, take, drop, take-append-drop}
 use lib.Seq.{sets, length-sets, length-take-le, drop-drop}
 use Rattle.numbers.specs.Bytes.{bytes}
-use Rattle.numbers.specs.Tests.{joined}
 use Rattle.numbers.proofs.Laws.{length-bytes}
 use Rattle.image.specs.Layout.{cellCount, startValues}
 use Rattle.effects.specs.declared.Effect.{Effect}
@@ -70,7 +69,7 @@ pub record Marked (all b₀ b : List ℕ) (t : ℕ) (left : List ℕ) : Type 0 w
 
 -- None is to come.
 all-marked : {all b₀ b : List ℕ} {t : ℕ} → Marked all b₀ b t [] → VisitedAs all t b₀ b
-unfolding visitBytes joined visitsOver
+unfolding visitBytes flatMap visitsOver
 all-marked {all} {b₀} {b} {t} w =
     let e : take (2 * t) b ≡ visitBytes all = sym (append-nil (take (2 * t) b)) ∙ w .whole in
     let n : length (visitBytes all) ≡ 2 * t = sym (ap length e) ∙ length-take-le (2 * t) b (w .inside) in
@@ -81,7 +80,7 @@ all-marked {all} {b₀} {b} {t} w =
 
 -- The next place is written.
 mark-more : {all b₀ b : List ℕ} {t n : ℕ} {left : List ℕ} → Marked all b₀ b t (n ∷ left) → 2 * t + 2 ≤ length b → Marked all b₀ (sets b (2 * t) (bytes 2 n)) (t + 1) left
-unfolding visitBytes joined
+unfolding visitBytes flatMap
 mark-more {all} {b₀} {b} {t} {n} {left} w f =
     let g : 2 * t + length (bytes 2 n) ≤ length b = rw (length-bytes 2 n) f in
     let k : 2 * (t + 1) ≡ 2 * t + length (bytes 2 n) = rw (length-bytes 2 n) (omega arith) in

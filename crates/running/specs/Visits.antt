@@ -1,12 +1,11 @@
 -- Document 01, "One turn": the places of a run, which are the next cell at each turn that is taken.
 -- Assumes nothing.
 use mathlib.Core.Bool.{cond}
-use mathlib.Core.List.{List, [], _∷_, _++_}
+use mathlib.Core.List.{List, [], _∷_, _++_, flatMap}
 use Prim.Native.Nat.{ℕ, zero, suc}
 use lib.Dec.{leb}
 use lib.ListN.{length, drop}
 use Rattle.numbers.specs.Bytes.{bytes}
-use Rattle.numbers.specs.Tests.{joined}
 use Rattle.image.specs.Layout.{cellCount, startValues}
 use Rattle.effects.specs.declared.Effect.{Effect}
 use Rattle.machine.specs.declared.Machine.{Machine}
@@ -33,7 +32,7 @@ imageVisits s script budget = visitsFrom (cellActs s) (cellCount s) budget 0 (ev
 
 -- Image 2: places as bytes, two for each, the lowest first.
 unfoldable pub visitBytes : List ℕ → List ℕ
-visitBytes places = joined (bytes 2) places
+visitBytes places = flatMap (bytes 2) places
 
 -- The bytes of places over what a buffer held.
 unfoldable pub visitsOver : List ℕ → List ℕ → List ℕ

@@ -13,7 +13,7 @@ use lib.IntN.{ℤ, pos, negℤ}
 use lib.ListN.{length, drop, length-drop}
 use lib.Seq.{drop-drop}
 use Rattle.numbers.specs.Bytes.{ascii}
-use Rattle.numbers.specs.Tests.{all, eqList, numbered}
+use Rattle.numbers.specs.Tests.{eqList, numbered}
 use Rattle.program.specs.Names.{Name, twoCharacters, userName}
 use Rattle.program.specs.Code.{key, nameOf}
 use Rattle.program.specs.Statements as Said
@@ -272,12 +272,12 @@ fixed-law n h (t ∷ ts) p g =
 
 -- What a match took, as the paper's slots hand it on: the parts, and the tokens behind them.
 abbrev after : List Paper.Token → Match → Option (Form.Taken Parts)
-after all m = whether (m .ok) (partsOf m) (drop (m .place) all)
+after whole m = whether (m .ok) (partsOf m) (drop (m .place) whole)
 
-after-onward : (all : List Paper.Token) (m : Match) (b : Bool) (used : ℕ) → m .ok ≡ true
-    → whether b (partsOf m) (drop used (drop (m .place) all)) ≡ after all (onward m b used)
-after-onward all m b used e =
-    ap₂ (λ (x : Bool) (ts : List Paper.Token). whether x (partsOf m) ts) (sym (ap (λ (x : Bool). x && b) e)) (drop-drop used (m .place) all)
+after-onward : (whole : List Paper.Token) (m : Match) (b : Bool) (used : ℕ) → m .ok ≡ true
+    → whether b (partsOf m) (drop used (drop (m .place) whole)) ≡ after whole (onward m b used)
+after-onward whole m b used e =
+    ap₂ (λ (x : Bool) (ts : List Paper.Token). whether x (partsOf m) ts) (sym (ap (λ (x : Bool). x && b) e)) (drop-drop used (m .place) whole)
 
 slot-fixed : (m : Match) (n : ℕ) (t u : Token) → 8 < n → slotBy m n t u ≡ onward m (eqb n (t .key)) 1
 unfolding slotBy wordBy
@@ -315,53 +315,53 @@ comparison-law p ts g =
     ∙ word-law isComparison comparison-word nameOf (named isComparison comparison-word) (λ (w : Name). comparing p (comparisonBy w)) ts g
 
 -- Each slot, by its number.
-module _ (all : List Paper.Token) (m : Match) (e : m .ok ≡ true) (g : Goods (drop (m .place) all)) where
+module _ (whole : List Paper.Token) (m : Match) (e : m .ok ≡ true) (g : Goods (drop (m .place) whole)) where
   slot-law : {n : ℕ} {s : Slot} → Kind n s
-      → takes s (drop (m .place) all) (partsOf m) ≡ after all (slotBy m n (front (drop (m .place) all)) (front (drop 1 (drop (m .place) all))))
+      → takes s (drop (m .place) whole) (partsOf m) ≡ after whole (slotBy m n (front (drop (m .place) whole)) (front (drop 1 (drop (m .place) whole))))
   unfolding takes slotBy wordBy
   slot-law new =
-      let ts = drop (m .place) all in
+      let ts = drop (m .place) whole in
       let k = front ts .key in
-      word-law twoCharacters two-word spelt (kept twoCharacters two-word) (naming (partsOf m)) ts g ∙ after-onward all (withName m k) (twoCharacters (nameOf k)) 1 e
+      word-law twoCharacters two-word spelt (kept twoCharacters two-word) (naming (partsOf m)) ts g ∙ after-onward whole (withName m k) (twoCharacters (nameOf k)) 1 e
   slot-law target =
-      let ts = drop (m .place) all in
+      let ts = drop (m .place) whole in
       let k = front ts .key in
-      word-law userName user-word spelt (kept userName user-word) (naming (partsOf m)) ts g ∙ after-onward all (withName m k) (userName (nameOf k)) 1 e
+      word-law userName user-word spelt (kept userName user-word) (naming (partsOf m)) ts g ∙ after-onward whole (withName m k) (userName (nameOf k)) 1 e
   slot-law written =
-      let ts = drop (m .place) all in
+      let ts = drop (m .place) whole in
       let k = front ts .key in
       word-law variableName variable-word spelt (kept variableName variable-word) (writing (partsOf m)) ts g
-      ∙ after-onward all (withWritten m k) (variableName (nameOf k)) 1 e
+      ∙ after-onward whole (withWritten m k) (variableName (nameOf k)) 1 e
   slot-law left =
-      let ts = drop (m .place) all in
+      let ts = drop (m .place) whole in
       let x = opOf ts in
       ap (put (onLeft (partsOf m))) (operand-law ts g)
       ∙ put-whether (onLeft (partsOf m)) (not (eqb (x .used) 0)) (valueOf (x .value)) (drop (x .used) ts)
-      ∙ after-onward all (withLeft m (x .value)) (not (eqb (x .used) 0)) (x .used) e
+      ∙ after-onward whole (withLeft m (x .value)) (not (eqb (x .used) 0)) (x .used) e
   slot-law right =
-      let ts = drop (m .place) all in
+      let ts = drop (m .place) whole in
       let x = opOf ts in
       ap (put (onRight (partsOf m))) (operand-law ts g)
       ∙ put-whether (onRight (partsOf m)) (not (eqb (x .used) 0)) (valueOf (x .value)) (drop (x .used) ts)
-      ∙ after-onward all (withRight m (x .value)) (not (eqb (x .used) 0)) (x .used) e
+      ∙ after-onward whole (withRight m (x .value)) (not (eqb (x .used) 0)) (x .used) e
   slot-law start =
-      let ts = drop (m .place) all in
+      let ts = drop (m .place) whole in
       let x = litOf ts in
       ap (put (starting (partsOf m))) (literal-law ts g)
       ∙ put-whether (starting (partsOf m)) (not (eqb (x .used) 0)) (startOf (x .value)) (drop (x .used) ts)
-      ∙ after-onward all (withStart m (x .value)) (not (eqb (x .used) 0)) (x .used) e
+      ∙ after-onward whole (withStart m (x .value)) (not (eqb (x .used) 0)) (x .used) e
   slot-law operator =
-      let ts = drop (m .place) all in
-      operator-law (partsOf m) ts g ∙ after-onward all (withOperator m (front ts .key)) (isOperator (nameOf (front ts .key))) 1 e
+      let ts = drop (m .place) whole in
+      operator-law (partsOf m) ts g ∙ after-onward whole (withOperator m (front ts .key)) (isOperator (nameOf (front ts .key))) 1 e
   slot-law comparison =
-      let ts = drop (m .place) all in
-      comparison-law (partsOf m) ts g ∙ after-onward all (withComparison m (front ts .key)) (isComparison (nameOf (front ts .key))) 1 e
+      let ts = drop (m .place) whole in
+      comparison-law (partsOf m) ts g ∙ after-onward whole (withComparison m (front ts .key)) (isComparison (nameOf (front ts .key))) 1 e
   slot-law (fixed n t) =
-      let ts = drop (m .place) all in
+      let ts = drop (m .place) whole in
       let h : 8 < n = ltb-true 8 n (true-of (ltb 8 n) t) in
       fixed-law n (omega arith) ts (partsOf m) g
-      ∙ after-onward all m (eqb n (front ts .key)) 1 e
-      ∙ ap (after all) (sym (slot-fixed m n (front ts) (front (drop 1 ts)) h))
+      ∙ after-onward whole m (eqb n (front ts .key)) 1 e
+      ∙ ap (after whole) (sym (slot-fixed m n (front ts) (front (drop 1 ts)) h))
 
 -- A slot takes no more tokens than there are, or it takes nothing.
 slot-used : {n : ℕ} {s : Slot} (m : Match) (ts : List Paper.Token) → Kind n s → slotBy m n (front ts) (front (drop 1 ts)) .place ≤ m .place + max 1 (length ts)
@@ -399,7 +399,7 @@ goods-drop (suc n) (t ∷ ts) g = goods-drop n ts (g .1)
 
 -- A form is filled where each slot took something and no token is left.
 abbrev pub finish : List Paper.Token → Match → Option Parts
-finish all m = cond (m .ok && eqb (m .place) (length all)) (some (partsOf m)) none
+finish whole m = cond (m .ok && eqb (m .place) (length whole)) (some (partsOf m)) none
 
 none-left : (ts : List Paper.Token) (p : Parts) → fill [] ts p ≡ cond (eqb (length ts) 0) (some p) none
 unfolding fill
@@ -415,42 +415,42 @@ at-end n k h =
 abbrev pub goOn : List Slot → Option (Form.Taken Parts) → Option Parts
 goOn ss o = elim o [ none ↦ none | some f ↦ fill ss (f .rest) (f .part) ]
 
-module _ (all : List Paper.Token) (g : Goods all) (at : List Token) (read : (i : ℕ) → tokenAt at i ≡ front (drop i all)) where
+module _ (whole : List Paper.Token) (g : Goods whole) (at : List Token) (read : (i : ℕ) → tokenAt at i ≡ front (drop i whole)) where
   slot-next : (n : ℕ) (m : Match)
-      → slotBy m n (tokenAt at (m .place)) (tokenAt at (m .place + 1)) ≡ slotBy m n (front (drop (m .place) all)) (front (drop 1 (drop (m .place) all)))
+      → slotBy m n (tokenAt at (m .place)) (tokenAt at (m .place + 1)) ≡ slotBy m n (front (drop (m .place) whole)) (front (drop 1 (drop (m .place) whole)))
   slot-next n m =
       ap₂ (λ (t u : Token). slotBy m n t u) (read (m .place))
-      (read (m .place + 1) ∙ ap front (sym (drop-drop 1 (m .place) all)))
+      (read (m .place + 1) ∙ ap front (sym (drop-drop 1 (m .place) whole)))
 
-  pub fill-law : {ns : List ℕ} {ss : List Slot} → Slots ns ss → (m : Match) → m .ok ≡ true → m .place ≤ length all
-      → fill ss (drop (m .place) all) (partsOf m) ≡ finish all (fillBy ns at m)
+  pub fill-law : {ns : List ℕ} {ss : List Slot} → Slots ns ss → (m : Match) → m .ok ≡ true → m .place ≤ length whole
+      → fill ss (drop (m .place) whole) (partsOf m) ≡ finish whole (fillBy ns at m)
   unfolding fill fillBy slotBy
   fill-law end m e h =
-      none-left (drop (m .place) all) (partsOf m)
+      none-left (drop (m .place) whole) (partsOf m)
       ∙ ap (λ (b : Bool). cond b (some (partsOf m)) none)
-      (ap (λ (k : ℕ). eqb k 0) (length-drop (m .place) all) ∙ at-end (length all) (m .place) h ∙ sym (ap (λ (b : Bool). b && eqb (m .place) (length all)) e))
-  fill-law (skip {ns} r) m e h = fill-law r m e h ∙ ap (finish all) (sym (cond-yes (m .ok) (fillBy ns at m) m e))
+      (ap (λ (k : ℕ). eqb k 0) (length-drop (m .place) whole) ∙ at-end (length whole) (m .place) h ∙ sym (ap (λ (b : Bool). b && eqb (m .place) (length whole)) e))
+  fill-law (skip {ns} r) m e h = fill-law r m e h ∙ ap (finish whole) (sym (cond-yes (m .ok) (fillBy ns at m) m e))
   fill-law (slot {n} {s} {ns} {ss} k r) m e h =
-      ap (goOn ss) law ∙ pick (next .ok) refl (λ f b. fill-law r next f b) ∙ ap (finish all) (sym (cond-yes (m .ok) _ m e ∙ ap (fillBy ns at) (slot-next n m)))
+      ap (goOn ss) law ∙ pick (next .ok) refl (λ f b. fill-law r next f b) ∙ ap (finish whole) (sym (cond-yes (m .ok) _ m e ∙ ap (fillBy ns at) (slot-next n m)))
     where
       here : List Paper.Token
-      here = drop (m .place) all
+      here = drop (m .place) whole
 
       next : Match
-      next = slotBy m n (front (drop (m .place) all)) (front (drop 1 (drop (m .place) all)))
+      next = slotBy m n (front (drop (m .place) whole)) (front (drop 1 (drop (m .place) whole)))
 
-      law : takes s (drop (m .place) all) (partsOf m) ≡ after all next
-      law = slot-law all m e (goods-drop (m .place) all g) k
+      law : takes s (drop (m .place) whole) (partsOf m) ≡ after whole next
+      law = slot-law whole m e (goods-drop (m .place) whole g) k
 
-      inside : next .ok ≡ true → next .place ≤ length all
+      inside : next .ok ≡ true → next .place ≤ length whole
       inside f =
-          let l = some-left s (drop (m .place) all) (partsOf m) (law ∙ cond-yes (next .ok) _ _ f) in
-          omega (arith, slot-used m (drop (m .place) all) k, length-drop (m .place) all)
+          let l = some-left s (drop (m .place) whole) (partsOf m) (law ∙ cond-yes (next .ok) _ _ f) in
+          omega (arith, slot-used m (drop (m .place) whole) k, length-drop (m .place) whole)
 
-      pick : (b : Bool) → next .ok ≡ b → (next .ok ≡ true → next .place ≤ length all → fill ss (drop (next .place) all) (partsOf next) ≡ finish all (fillBy ns at next))
-          → goOn ss (after all next) ≡ finish all (fillBy ns at next)
+      pick : (b : Bool) → next .ok ≡ b → (next .ok ≡ true → next .place ≤ length whole → fill ss (drop (next .place) whole) (partsOf next) ≡ finish whole (fillBy ns at next))
+          → goOn ss (after whole next) ≡ finish whole (fillBy ns at next)
       pick true f ih = ap (goOn ss) (cond-yes (next .ok) _ _ f) ∙ ih f (inside f)
       pick false f ih =
           ap (goOn ss) (cond-no (next .ok) _ _ f)
-          ∙ sym (ap (λ (b : Bool). cond (b && eqb (next .place) (length all)) (some (partsOf next)) none) f)
-          ∙ ap (finish all) (sym (fill-stop at next ns f))
+          ∙ sym (ap (λ (b : Bool). cond (b && eqb (next .place) (length whole)) (some (partsOf next)) none) f)
+          ∙ ap (finish whole) (sym (fill-stop at next ns f))

@@ -11,7 +11,7 @@ use borrow.Author.Tests.{ne-eqb}
 use lib.Dec.{T, eqb, leb, leb→le, eqb→eq, eqb-refl}
 use lib.ListN.{length}
 use Rattle.numbers.specs.Bytes.{number}
-use Rattle.numbers.specs.Tests.{all, any, eqList, lowest}
+use Rattle.numbers.specs.Tests.{allOf, anyOf, eqList, lowest}
 use Rattle.program.specs.Names.{Name, letter, digit, wordCharacter, reserved, paperVariable, twoCharacters, userName}
 use Rattle.program.specs.Variables.{readOnly, mostCells, mostLabels, mostVariables}
 use Rattle.program.specs.Code.{key, nameOf}
@@ -27,7 +27,7 @@ use Rattle.text.specs.Tokens as Paper
 use Rattle.text.specs.Tokens.{printable, uncommented, tokens}
 use Rattle.text.specs.Forms as Form
 use Rattle.text.specs.Forms.{Line, Blank, Label, Declared, Acts, Parts, noParts, fill, byForm, statement, reading, variableName}
-use Rattle.text.specs.Faults.{longLine, badForm, bigLiteral, reservedName, bigIn, bigValue, tooBig, declares, declaresIt, makesCell, makesLabel, makesVariable, heard, faults, repeated, tooMany, undeclared, readOnlyWritten, count, firstMakes, unknownVariable, unknownValue, unknownIn}
+use Rattle.text.specs.Faults.{longLine, badForm, bigLiteral, reservedName, bigIn, bigValue, tooBig, declares, declaresIt, makesCell, makesLabel, makesVariable, heard, faults, repeated, tooMany, undeclared, readOnlyWritten, howMany, firstMakes, unknownVariable, unknownValue, unknownIn}
 use Rattle.text.specs.Code.{saidBy, readingOf, aimsAt, inOperand, placed, written, operandWith, resolved}
 use Rattle.text.proofs.Words.{variable-word}
 use Rattle.text.proofs.Rows.{HoldsAt, Filled, filled, Rows, last, next, rows, Known, Named, Sound}
@@ -56,7 +56,7 @@ statement-sound (t ∷ ts) = form-sound rows (t ∷ ts)
 
 reading-sound : (l : List ℕ) → SoundAt (reading l)
 unfolding reading
-reading-sound l = pick (all printable l)
+reading-sound l = pick (allOf printable l)
   where
     pick : (b : Bool) → SoundAt (cond b (statement (tokens (uncommented l))) none)
     pick true = statement-sound (tokens (uncommented l))
@@ -67,7 +67,7 @@ abbrev pub Fine : Line → Type 0
 Fine Blank = Unit
 Fine (Label w) = T (userName w)
 Fine (Declared w z) = T (userName w) × (tooBig z ≡ false)
-Fine (Acts s) = Named s × (any bigValue (operands s) ≡ false)
+Fine (Acts s) = Named s × (anyOf bigValue (operands s) ≡ false)
 
 or-none : (b : Bool) → (b || false) ≡ false → b ≡ false
 or-none true e = absurd (never e)
@@ -77,8 +77,8 @@ own-name : (w : Name) → T (twoCharacters w) → (reserved w || false) ≡ fals
 unfolding userName
 own-name w t e = both-of (twoCharacters w) (not (reserved w)) t (subst (λ (b : Bool). T (not b)) (sym (or-none (reserved w) e)) tt)
 
-fine : (x : Line) → Sound x → bigIn x ≡ false → any reserved (declares x) ≡ false → Fine x
-unfolding bigIn any declares
+fine : (x : Line) → Sound x → bigIn x ≡ false → anyOf reserved (declares x) ≡ false → Fine x
+unfolding bigIn anyOf declares
 fine Blank s b r = tt
 fine (Label w) s b r = own-name w s r
 fine (Declared w z) s b r = (own-name w s r, b)
@@ -88,7 +88,7 @@ pub heard-fine : (l : List ℕ) → Fine (heard l)
 unfolding heard badForm bigLiteral reservedName
 heard-fine l = pick (reading l) (reading-sound l) (longLine l)
   where
-    some-fine : (x : Line) → Sound x → (long big kept : Bool) → bigIn x ≡ big → any reserved (declares x) ≡ kept → Fine (cond (long || (false || (big || kept))) Blank x)
+    some-fine : (x : Line) → Sound x → (long big kept : Bool) → bigIn x ≡ big → anyOf reserved (declares x) ≡ kept → Fine (cond (long || (false || (big || kept))) Blank x)
     some-fine x s true big kept b r = tt
     some-fine x s false true kept b r = tt
     some-fine x s false false true b r = tt
@@ -99,10 +99,10 @@ heard-fine l = pick (reading l) (reading-sound l) (longLine l)
     none-fine false = tt
 
     pick : (o : Option Line) → SoundAt o → (long : Bool)
-        → Fine (cond (long || ((elim o [ none ↦ true | some x ↦ false ]) || ((elim o [ none ↦ false | some x ↦ bigIn x ]) || (elim o [ none ↦ false | some x ↦ any reserved (declares x) ]))))
+        → Fine (cond (long || ((elim o [ none ↦ true | some x ↦ false ]) || ((elim o [ none ↦ false | some x ↦ bigIn x ]) || (elim o [ none ↦ false | some x ↦ anyOf reserved (declares x) ]))))
         Blank (elim o [ none ↦ Blank | some x ↦ x ]))
     pick none h long = none-fine long
-    pick (some x) h long = some-fine x h long (bigIn x) (any reserved (declares x)) refl refl
+    pick (some x) h long = some-fine x h long (bigIn x) (anyOf reserved (declares x)) refl refl
 
 -- The reading of a line, by what is heard.
 module _ (l : List ℕ) where
@@ -153,7 +153,7 @@ or-false true = refl
 or-false false = refl
 
 pub declares-key : (x : Line) → Fine x → (w : Name) → IsWord w → declaresIt w x ≡ ((eqb (saidBy x .kind) 1 || eqb (saidBy x .kind) 2) && eqb (saidBy x .name) (key w))
-unfolding declaresIt declares any saidBy
+unfolding declaresIt declares anyOf saidBy
 declares-key Blank f w i = refl
 declares-key (Label v) f w i = or-false (eqList w v) ∙ eq-key w v i (user-word v f) ∙ eqb-turn (key w) (key v)
 declares-key (Declared v z) f w i = or-false (eqList w v) ∙ eq-key w v i (user-word v (f .0)) ∙ eqb-turn (key w) (key v)
@@ -232,19 +232,19 @@ aims-at n t =
 
 -- What a test finds in an operand of a cell.
 module _ (P : Name → Bool) where
-  one-aim : (n : Name) → T (userName n) → any P (n ∷ []) ≡ (aimsAt (key n) && P (nameOf (key n)))
-  unfolding any
+  one-aim : (n : Name) → T (userName n) → anyOf P (n ∷ []) ≡ (aimsAt (key n) && P (nameOf (key n)))
+  unfolding anyOf
   one-aim n t = or-false (P n) ∙ sym (ap₂ (λ (b : Bool) (w : Name). b && P w) (aims-at n t) (name-key n (user-word n t)))
 
-  one-write : (v : Name) → T (variableName v) → any P (v ∷ []) ≡ (not (eqb (key v) 0) && P (nameOf (key v)))
-  unfolding any
+  one-write : (v : Name) → T (variableName v) → anyOf P (v ∷ []) ≡ (not (eqb (key v) 0) && P (nameOf (key v)))
+  unfolding anyOf
   one-write v t =
       let i = variable-word v t in
       or-false (P v) ∙ sym (ap₂ (λ (b : Bool) (w : Name). not b && P w) (ne-eqb (key v) 0 (λ e. let p = key-positive i in omega arith)) (name-key v i))
 
   -- A test of a statement's label, and of the variable that it writes.
-  pub target-asked : (s : Statement Name) → Named s → any P (targets s) ≡ (aimsAt (cellOf key key s .target) && P (nameOf (cellOf key key s .target)))
-  unfolding targets any cellOf jumpOf noTarget
+  pub target-asked : (s : Statement Name) → Named s → anyOf P (targets s) ≡ (aimsAt (cellOf key key s .target) && P (nameOf (cellOf key key s .target)))
+  unfolding targets anyOf cellOf jumpOf noTarget
   target-asked (Set v x) h = refl
   target-asked (SetWith v x o y) h = refl
   target-asked (IC v) h = refl
@@ -264,8 +264,8 @@ module _ (P : Name → Bool) where
   target-asked (SL x) h = refl
   target-asked (PR x) h = refl
 
-  pub written-asked : (s : Statement Name) → Named s → any P (writes s) ≡ (not (eqb (cellOf key key s .written) 0) && P (nameOf (cellOf key key s .written)))
-  unfolding writes any cellOf jumpOf
+  pub written-asked : (s : Statement Name) → Named s → anyOf P (writes s) ≡ (not (eqb (cellOf key key s .written) 0) && P (nameOf (cellOf key key s .written)))
+  unfolding writes anyOf cellOf jumpOf
   written-asked (Set v x) h = one-write v (h .sets .0)
   written-asked (SetWith v x o y) h = one-write v (h .sets .0)
   written-asked (IC v) h = one-write v (h .sets .0)
@@ -291,17 +291,17 @@ module _ (P : Said.Value Name → Bool) where
   in-operand (Literal z) k = refl
   in-operand (Variable v) k = ap (λ (w : Name). P (Variable w)) (name-key v (variable-word v k))
 
-  one-read : (x : Said.Value Name) → Known x → any P (x ∷ []) ≡ (inOperand P (Cells.operandOf key key x) || false)
-  unfolding any
+  one-read : (x : Said.Value Name) → Known x → anyOf P (x ∷ []) ≡ (inOperand P (Cells.operandOf key key x) || false)
+  unfolding anyOf
   one-read x k = ap (λ (b : Bool). b || false) (sym (in-operand x k))
 
-  two-read : (x y : Said.Value Name) → Known x → Known y → any P (x ∷ y ∷ []) ≡ (inOperand P (Cells.operandOf key key x) || inOperand P (Cells.operandOf key key y))
-  unfolding any
+  two-read : (x y : Said.Value Name) → Known x → Known y → anyOf P (x ∷ y ∷ []) ≡ (inOperand P (Cells.operandOf key key x) || inOperand P (Cells.operandOf key key y))
+  unfolding anyOf
   two-read x y k j = ap₂ (λ (a b : Bool). a || b) (sym (in-operand x k)) (or-false (P y) ∙ sym (in-operand y j))
 
   -- A test of a statement's operands.
-  pub operands-asked : (s : Statement Name) → Named s → any P (operands s) ≡ (inOperand P (cellOf key key s .left) || inOperand P (cellOf key key s .right))
-  unfolding operands compared any cellOf jumpOf
+  pub operands-asked : (s : Statement Name) → Named s → anyOf P (operands s) ≡ (inOperand P (cellOf key key s .left) || inOperand P (cellOf key key s .right))
+  unfolding operands compared anyOf cellOf jumpOf
   operands-asked (Set v x) h = one-read x (h .reads .0)
   operands-asked (SetWith v x o y) h = two-read x y (h .reads .0) (h .reads .1 .0)
   operands-asked (IC v) h = refl
@@ -365,19 +365,19 @@ module _ (place number : Name → ℕ) where
 
 -- The faults 6 to 9 of a line that is heard, by its reading.
 pub repeated-asked : (before : List Line) (x : Line) → Fine x
-    → repeated before x ≡ ((eqb (saidBy x .kind) 1 || eqb (saidBy x .kind) 2) && any (declaresIt (nameOf (saidBy x .name))) before)
-unfolding repeated declares any saidBy
+    → repeated before x ≡ ((eqb (saidBy x .kind) 1 || eqb (saidBy x .kind) 2) && anyOf (declaresIt (nameOf (saidBy x .name))) before)
+unfolding repeated declares anyOf saidBy
 repeated-asked before Blank f = refl
 repeated-asked before (Label v) f =
-    or-false (any (declaresIt v) before) ∙ ap (λ (w : Name). any (declaresIt w) before) (sym (name-key v (user-word v f)))
+    or-false (anyOf (declaresIt v) before) ∙ ap (λ (w : Name). anyOf (declaresIt w) before) (sym (name-key v (user-word v f)))
 repeated-asked before (Declared v z) f =
-    or-false (any (declaresIt v) before) ∙ ap (λ (w : Name). any (declaresIt w) before) (sym (name-key v (user-word v (f .0))))
+    or-false (anyOf (declaresIt v) before) ∙ ap (λ (w : Name). anyOf (declaresIt w) before) (sym (name-key v (user-word v (f .0))))
 repeated-asked before (Acts s) f = refl
 
 pub too-many-asked : (before : List Line) (x : Line)
     → tooMany before x
-    ≡ ((eqb (saidBy x .kind) 3 && leb mostCells (count makesCell before))
-    || ((eqb (saidBy x .kind) 1 && leb mostLabels (count makesLabel before)) || (eqb (saidBy x .kind) 2 && leb mostVariables (count makesVariable before))))
+    ≡ ((eqb (saidBy x .kind) 3 && leb mostCells (howMany makesCell before))
+    || ((eqb (saidBy x .kind) 1 && leb mostLabels (howMany makesLabel before)) || (eqb (saidBy x .kind) 2 && leb mostVariables (howMany makesVariable before))))
 unfolding tooMany
 too-many-asked before x = rw (cell-kind x, label-kind x, variable-kind x)
 

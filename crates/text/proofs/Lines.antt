@@ -11,7 +11,7 @@ use borrow.Author.Tests.{eqb-true, leb-true, leb-false}
 use lib.Dec.{eqb, leb}
 use lib.ListN.{length, take, drop, getD, length-drop, drop-of-length-le, take-append-drop}
 use lib.Seq.{drop-cons, drop-drop, getD-drop, take-all, length-take-le}
-use Rattle.text.specs.Lines.{lines, before}
+use Rattle.text.specs.Lines.{lines, ontoFirstLine}
 use Rattle.text.specs.Code.{atEnd, lineLength, endingLength, Starts, LineAt}
 use Rattle.text.specs.declared.Span.{Span}
 
@@ -56,7 +56,7 @@ Step (b ∷ bs) = lines (b ∷ bs) ≡ take (lineLength (b ∷ bs)) (b ∷ bs) �
 
 -- By what the first byte is: an LF; a CR with an LF behind it; another.
 step : (b : ℕ) (bs : List ℕ) (x y z : Bool) → eqb b 10 ≡ x → eqb b 13 ≡ y → eqb (getD bs 0 0) 10 ≡ z → Step bs → Step (b ∷ bs)
-unfolding lines before lineLength endingLength atEnd
+unfolding lines ontoFirstLine lineLength endingLength atEnd
 step b bs true y z e f g ih = simp e
 step b [] false true true e f g ih = simp (e, f)
 step b (c ∷ cs) false true true e f g ih = simp (e, f, g)
@@ -181,8 +181,8 @@ some-cond true y ls ms ns p q r = p
 some-cond false true ls ms ns p q r = q refl
 some-cond false false ls ms ns p q r = r
 
-some-before : (b : ℕ) (ls : List (List ℕ)) → Some (before b ls)
-unfolding before
+some-before : (b : ℕ) (ls : List (List ℕ)) → Some (ontoFirstLine b ls)
+unfolding ontoFirstLine
 some-before b [] = tt
 some-before b (l ∷ ls) = tt
 
@@ -193,13 +193,13 @@ neither false e = let q : _≡_ {A = ℕ} 0 1 = cc in omega arith
 some-lines : (b : ℕ) (bs : List ℕ) → Some (lines (b ∷ bs))
 unfolding lines
 some-lines b [] =
-    some-cond (eqb b 10) (eqb b 13 && eqb 0 10) ([] ∷ []) [] (before b []) tt (λ e. absurd (neither (eqb b 13) e)) (some-before b [])
+    some-cond (eqb b 10) (eqb b 13 && eqb 0 10) ([] ∷ []) [] (ontoFirstLine b []) tt (λ e. absurd (neither (eqb b 13) e)) (some-before b [])
 some-lines b (c ∷ cs) =
-    some-cond (eqb b 10) (eqb b 13 && eqb c 10) ([] ∷ lines (c ∷ cs)) (lines (c ∷ cs)) (before b (lines (c ∷ cs))) tt (λ e. some-lines c cs)
+    some-cond (eqb b 10) (eqb b 13 && eqb c 10) ([] ∷ lines (c ∷ cs)) (lines (c ∷ cs)) (ontoFirstLine b (lines (c ∷ cs))) tt (λ e. some-lines c cs)
     (some-before b (lines (c ∷ cs)))
 
-before-more : (b : ℕ) (ls ms : List (List ℕ)) → Some ls → before b (ls ++ ms) ≡ before b ls ++ ms
-unfolding before
+before-more : (b : ℕ) (ls ms : List (List ℕ)) → Some ls → ontoFirstLine b (ls ++ ms) ≡ ontoFirstLine b ls ++ ms
+unfolding ontoFirstLine
 before-more b [] ms s = absurd s
 before-more b (l ∷ ls) ms s = refl
 
@@ -214,7 +214,7 @@ closed [] ys e = refl
 closed (b ∷ []) ys e = rw e
 closed (b ∷ c ∷ cs) ys e =
     rw (closed (c ∷ cs) ys e, before-more b (lines (c ∷ cs)) (lines ys) (some-lines c cs))
-    (cond-append (eqb b 10) (eqb b 13 && eqb c 10) ([] ∷ lines (c ∷ cs)) (lines (c ∷ cs)) (before b (lines (c ∷ cs))) (lines ys))
+    (cond-append (eqb b 10) (eqb b 13 && eqb c 10) ([] ∷ lines (c ∷ cs)) (lines (c ∷ cs)) (ontoFirstLine b (lines (c ∷ cs))) (lines ys))
 
 -- The text before a place where a line starts is whole lines.
 ends-take : (s : List ℕ) (at : ℕ) → at ≤ length s → getD (10 ∷ s) at 10 ≡ 10 → Ends (take at s)

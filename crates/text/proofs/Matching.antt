@@ -15,7 +15,7 @@ use lib.Seq.{drop-cons}
 use mir.Syntax.{w32}
 use mir.Val.{SFits}
 use Rattle.numbers.specs.Bytes.{number, ascii}
-use Rattle.numbers.specs.Tests.{all, eqList, numbered}
+use Rattle.numbers.specs.Tests.{allOf, eqList, numbered}
 use Rattle.program.specs.Names.{reserved, mnemonics, variableNames, paperVariable}
 use Rattle.program.specs.Code.{key, nameOf}
 use Rattle.program.proofs.Keys.{both, key-name}
@@ -196,14 +196,14 @@ module _ (ts : Tokens) (f : ℕ) {m : Match} (h : f < 21) (p : m ≡ fillBy (slo
   form-not e = rw (rest-is, ← p, e)
 
 -- Six slots to a form, and none is left behind them.
-each-at : (P : List ℕ → Bool) (ls : List (List ℕ)) → T (all P ls) → (i : ℕ) → i < length ls → T (P (getD ls i []))
-unfolding all
+each-at : (P : List ℕ → Bool) (ls : List (List ℕ)) → T (allOf P ls) → (i : ℕ) → i < length ls → T (P (getD ls i []))
+unfolding allOf
 each-at P [] a i h = absurd (not-suc-le-zero h)
-each-at P (l ∷ ls) a zero h = both (P l) (all P ls) a .0
-each-at P (l ∷ ls) a (suc i) h = each-at P ls (both (P l) (all P ls) a .1) i (le-of-suc-le-suc h)
+each-at P (l ∷ ls) a zero h = both (P l) (allOf P ls) a .0
+each-at P (l ∷ ls) a (suc i) h = each-at P ls (both (P l) (allOf P ls) a .1) i (le-of-suc-le-suc h)
 
 pub slots-length : (form : ℕ) → form < 21 → length (slotsOf form) ≡ 6
-unfolding slotsOf slotTable all
+unfolding slotsOf slotTable allOf
 slots-length form h = eqb→eq (length (slotsOf form)) 6 (each-at (λ l. eqb (length l) 6) slotTable tt form h)
 
 pub fill-end : (ts : List Token) (m : Match) (l : List ℕ) (k : ℕ) → length l ≤ k → fillBy (drop k l) ts m ≡ m

@@ -12,7 +12,7 @@ use lib.Dec.{T, eqb, leb, ltb, leb→le}
 use lib.IntN.{ℤ, pos, negℤ}
 use lib.ListN.{length, drop, getD, set, replicate, length-append, length-map, drop-of-length-le}
 use lib.Seq.{set-at, append-snoc}
-use Rattle.numbers.specs.Tests.{all, eqList, numbered}
+use Rattle.numbers.specs.Tests.{allOf, eqList, numbered}
 use Rattle.numbers.specs.Bytes.{ascii}
 use Rattle.program.specs.Names.{Name, twoCharacters, userName}
 use Rattle.program.specs.Statements as Said
@@ -194,13 +194,13 @@ fill-short (s ∷ ss) ts p = pick (takes s ts p) (slot-short s ts p) (λ us q. f
     pick none h ih = tt
     pick (some f) h ih = wider (fill ss (f .rest) (f .part)) (length (f .rest)) h (ih (f .rest) (f .part))
 
-forms-short : (fs : List Form.Form) → T (all (λ f. leb (weights (f .slots)) 8) fs) → (ts : List Paper.Token) → 9 ≤ length ts → byForm fs ts ≡ none
-unfolding byForm all
+forms-short : (fs : List Form.Form) → T (allOf (λ f. leb (weights (f .slots)) 8) fs) → (ts : List Paper.Token) → 9 ≤ length ts → byForm fs ts ≡ none
+unfolding byForm allOf
 forms-short [] a ts h = refl
 forms-short (f ∷ fs) a ts h = pick (fill (f .slots) ts noParts) (fill-short (f .slots) ts noParts) (forms-short fs (b .1) ts h)
   where
-    b : T (leb (weights (f .slots)) 8) × T (all (λ f. leb (weights (f .slots)) 8) fs)
-    b = both (leb (weights (f .slots)) 8) (all (λ f. leb (weights (f .slots)) 8) fs) a
+    b : T (leb (weights (f .slots)) 8) × T (allOf (λ f. leb (weights (f .slots)) 8) fs)
+    b = both (leb (weights (f .slots)) 8) (allOf (λ f. leb (weights (f .slots)) 8) fs) a
 
     pick : (o : Option Parts) → HoldsAt (λ q. length ts ≤ weights (f .slots)) o → byForm fs ts ≡ none → _≡_ {A = Option Line} (elim o [ none ↦ byForm fs ts | some p ↦ some (f .says p) ]) none
     pick none k e = e
@@ -208,5 +208,5 @@ forms-short (f ∷ fs) a ts h = pick (fill (f .slots) ts noParts) (fill-short (f
 
 -- More than eight tokens fill no form.
 pub too-many : (ts : List Paper.Token) → 9 ≤ length ts → byForm forms ts ≡ none
-unfolding forms all weights weight
+unfolding forms allOf weights weight
 too-many ts h = forms-short forms tt ts h

@@ -10,12 +10,12 @@ use borrow.Author.Tests.{ne-eqb, ltb-true, lt-leb, le-leb}
 use lib.Dec.{eqb, leb, ltb}
 use lib.ListN.{length, getD, length-append}
 use Rattle.numbers.specs.Bytes.{number}
-use Rattle.numbers.specs.Tests.{all}
+use Rattle.numbers.specs.Tests.{allOf}
 use Rattle.numbers.proofs.Laws.{Bytes}
 use Rattle.program.specs.Names.{digit, letter, wordCharacter}
 use Rattle.program.specs.Code.{key}
 use Rattle.text.specs.Tokens as Paper
-use Rattle.text.specs.Tokens.{tokens, joins, longer}
+use Rattle.text.specs.Tokens.{tokens, joins, ontoFirstToken}
 use Rattle.text.specs.Forms.{digits, decimal}
 use Rattle.text.specs.Code.{shortKey, pack, pushed, pushedAll, packed, noTokens, word, noWord, keyWith, valueWith, moreDigits, grown, tokenOf, ends, scan}
 use Rattle.text.specs.declared.tokens.Word.{Word}
@@ -38,8 +38,8 @@ key-more (a ∷ b ∷ w) c h =
     let l : 2 < suc (suc (length (w ++ (c ∷ [])))) = omega (arith, length-append w (c ∷ [])) in
     simp (ne-eqb (suc (suc (length w))) 0 (λ e. omega arith), ne-eqb (suc (suc (length w))) 1 (λ e. omega arith), lt-leb (suc (suc (length (w ++ (c ∷ []))))) 2 l)
 
-all-more : (w : List ℕ) (c : ℕ) → all digit (w ++ (c ∷ [])) ≡ (all digit w && digit c)
-unfolding all
+all-more : (w : List ℕ) (c : ℕ) → allOf digit (w ++ (c ∷ [])) ≡ (allOf digit w && digit c)
+unfolding allOf
 all-more [] c = pick (digit c)
   where
     pick : (t : Bool) → (t && true) ≡ t
@@ -47,7 +47,7 @@ all-more [] c = pick (digit c)
     pick false = refl
 all-more (a ∷ w) c = pick (digit a) (all-more w c)
   where
-    pick : (t : Bool) → all digit (w ++ (c ∷ [])) ≡ (all digit w && digit c) → (t && all digit (w ++ (c ∷ []))) ≡ ((t && all digit w) && digit c)
+    pick : (t : Bool) → allOf digit (w ++ (c ∷ [])) ≡ (allOf digit w && digit c) → (t && allOf digit (w ++ (c ∷ []))) ≡ ((t && allOf digit w) && digit c)
     pick true e = e
     pick false e = refl
 
@@ -62,7 +62,7 @@ digits-more : (w : List ℕ) (c : ℕ) → ((digits (paper w false) && digit c) 
 unfolding digits
 digits-more w c =
     let n : length (w ++ (c ∷ [])) ≡ suc (length w) = length-append w (c ∷ []) ∙ add-one (length w) in
-    enough (all digit w) (leb (length w) 10) (digit c) (ltb (length w) 10) (λ e. le-leb (length w) 10 (omega (arith, ltb-true (length w) 10 e)))
+    enough (allOf digit w) (leb (length w) 10) (digit c) (ltb (length w) 10) (λ e. le-leb (length w) 10 (omega (arith, ltb-true (length w) 10 e)))
     ∙ rw (all-more w c, n)
 
 pub decimal-snoc : (v : ℕ) (w : List ℕ) (c : ℕ) → decimal v (w ++ (c ∷ [])) ≡ decimal v w * 10 + (c - 48)
@@ -94,23 +94,23 @@ unfolding wordOf pack digits
 packs w next = refl
 
 none-packs : noWord ≡ wordOf []
-unfolding wordOf digits shortKey key number decimal all
+unfolding wordOf digits shortKey key number decimal allOf
 none-packs = refl
 
 -- The characters w in front of the first token.
 prefixed : List ℕ → List Paper.Token → List Paper.Token
 prefixed [] ts = ts
-prefixed (c ∷ w) ts = longer c (prefixed w ts)
+prefixed (c ∷ w) ts = ontoFirstToken c (prefixed w ts)
 
-prefixed-more : (w : List ℕ) (c : ℕ) (ts : List Paper.Token) → prefixed w (longer c ts) ≡ prefixed (w ++ (c ∷ [])) ts
+prefixed-more : (w : List ℕ) (c : ℕ) (ts : List Paper.Token) → prefixed w (ontoFirstToken c ts) ≡ prefixed (w ++ (c ∷ [])) ts
 unfolding prefixed
 prefixed-more [] c ts = refl
-prefixed-more (a ∷ w) c ts = ap (longer a) (prefixed-more w c ts)
+prefixed-more (a ∷ w) c ts = ap (ontoFirstToken a) (prefixed-more w c ts)
 
 prefixed-ends : (w : List ℕ) (c : ℕ) (g : Bool) (ts : List Paper.Token) → prefixed w (paper (c ∷ []) g ∷ ts) ≡ paper (w ++ (c ∷ [])) g ∷ ts
-unfolding prefixed longer
+unfolding prefixed ontoFirstToken
 prefixed-ends [] c g ts = refl
-prefixed-ends (a ∷ w) c g ts = ap (longer a) (prefixed-ends w c g ts)
+prefixed-ends (a ∷ w) c g ts = ap (ontoFirstToken a) (prefixed-ends w c g ts)
 
 -- Nothing belongs together with a space behind it.
 pub joins-space : (c : ℕ) → joins c 32 ≡ false

@@ -9,7 +9,7 @@ use native.Mathlib.Omega.{arith}
 use borrow.Author.Tests.{lt-ltb, le-ltb, leb-true, leb-false, eq-eqb, ne-eqb}
 use lib.Dec.{eqb, leb}
 use lib.ListN.{length, take, drop}
-use Rattle.numbers.specs.Tests.{all, any, eqList, lowest}
+use Rattle.numbers.specs.Tests.{allOf, anyOf, eqList, lowest}
 use Rattle.numbers.specs.Bytes.{ascii}
 use Rattle.program.specs.Names.{reserved}
 use Rattle.program.specs.Code.{nameOf}
@@ -34,11 +34,11 @@ module _ (l : List ℕ) where
   unfolding lineBy longLine
   line-long h = rw (lt-ltb 64 (length l) h)
 
-  pub line-bad : length l ≤ 64 → all printable l ≡ false → faulty 3 ≡ lineBy l
+  pub line-bad : length l ≤ 64 → allOf printable l ≡ false → faulty 3 ≡ lineBy l
   unfolding lineBy longLine
   line-bad h e = rw (le-ltb 64 (length l) h, e)
 
-  pub line-says : {n : ℕ} {ts : Tokens} {r : Reading} → length l ≤ 64 → all printable l ≡ true → n ≡ length (uncommented l)
+  pub line-says : {n : ℕ} {ts : Tokens} {r : Reading} → length l ≤ 64 → allOf printable l ≡ true → n ≡ length (uncommented l)
       → ts ≡ packed (tokens (take n l)) → r ≡ statementBy ts → r ≡ lineBy l
   unfolding lineBy longLine
   line-says h e p q f = rw (f, q, p, le-ltb 64 (length l) h, e, ← code-part l .0)
@@ -86,7 +86,7 @@ module _ (ts : List Paper.Token) (g : Goods ts) (us : Tokens) (count : us .count
 
 -- All tokens of a line.
 nothing-says : statementBy (packed []) ≡ answer (statement [])
-unfolding statementBy packed pushedAll statement lineReading bigIn declares any saidBy
+unfolding statementBy packed pushedAll statement lineReading bigIn declares anyOf saidBy
 nothing-says = refl
 
 statement-law : (ts : List Paper.Token) → Goods ts → statementBy (packed ts) ≡ answer (statement ts)
@@ -115,7 +115,7 @@ readingFrom long bad big kept x =
 abbrev readingWhere : Bool → Option Line → Reading
 readingWhere long o =
     readingFrom long (elim o [ none ↦ true | some x ↦ false ]) (elim o [ none ↦ false | some x ↦ bigIn x ])
-    (elim o [ none ↦ false | some x ↦ any reserved (declares x) ]) (elim o [ none ↦ Blank | some x ↦ x ])
+    (elim o [ none ↦ false | some x ↦ anyOf reserved (declares x) ]) (elim o [ none ↦ Blank | some x ↦ x ])
 
 said-whole : (x : Line) → readingWith 0 (saidBy x .kind) (saidBy x .name) (saidBy x .start) (saidBy x .cell) ≡ saidBy x
 unfolding saidBy
@@ -133,7 +133,7 @@ some-reading x false false = said-whole x
 where-law : (o : Option Line) → answer o ≡ readingWhere false o
 unfolding lowest saidBy lineReading
 where-law none = refl
-where-law (some x) = sym (some-reading x (bigIn x) (any reserved (declares x)))
+where-law (some x) = sym (some-reading x (bigIn x) (anyOf reserved (declares x)))
 
 long-law : (o : Option Line) → faulty 2 ≡ readingWhere true o
 unfolding lowest saidBy
@@ -141,9 +141,9 @@ long-law o = refl
 
 pub line-reads : (l : List ℕ) → lineBy l ≡ readingOf l
 unfolding lineBy readingOf badForm bigLiteral reservedName heard reading
-line-reads l = pick (longLine l) refl (all printable l) refl
+line-reads l = pick (longLine l) refl (allOf printable l) refl
   where
-    pick : (x : Bool) → longLine l ≡ x → (y : Bool) → all printable l ≡ y → lineBy l ≡ readingWhere (longLine l) (reading l)
+    pick : (x : Bool) → longLine l ≡ x → (y : Bool) → allOf printable l ≡ y → lineBy l ≡ readingWhere (longLine l) (reading l)
     pick true e y f = rw e (long-law (reading l))
     pick false e true f = rw (e, f) (statement-law (tokens (uncommented l)) (line-good l f) ∙ where-law (statement (tokens (uncommented l))))
     pick false e false f = rw (e, f) (where-law none)

@@ -11,7 +11,7 @@ use borrow.Author.Tests.{eq-eqb, ne-eqb, ltb-true, leb-true}
 use lib.Dec.{eqb, leb, ltb}
 use lib.ListN.{length, take, drop, getD, drop-of-length-le}
 use lib.Seq.{drop-cons, getD-drop}
-use Rattle.numbers.specs.Tests.{all}
+use Rattle.numbers.specs.Tests.{allOf}
 use Rattle.program.specs.Names.{digit}
 use Rattle.text.specs.Tokens.{printable, uncommented}
 use Rattle.text.specs.Code.{Room, moreDigits, valueWith, word, keyWith, grown, tokenOf, ends, noWord, noTokens, pushed, scan}
@@ -110,16 +110,16 @@ module _ (l : List ℕ) (ts : Tokens) (w : Word) (i : ℕ) where
 
 -- The bytes that a line may hold, one after the other.
 module _ (l : List ℕ) (i : ℕ) where
-  pub printable-more : i < length l → printable (getD l i 0) ≡ true → all printable (drop (i + 1) l) ≡ all printable (drop i l)
-  unfolding all
+  pub printable-more : i < length l → printable (getD l i 0) ≡ true → allOf printable (drop (i + 1) l) ≡ allOf printable (drop i l)
+  unfolding allOf
   printable-more h e = rw (add-one i, drop-cons l i 0 h, e)
 
-  pub printable-stop : i < length l → printable (getD l i 0) ≡ false → false ≡ all printable (drop i l)
-  unfolding all
+  pub printable-stop : i < length l → printable (getD l i 0) ≡ false → false ≡ allOf printable (drop i l)
+  unfolding allOf
   printable-stop h e = rw (drop-cons l i 0 h, e)
 
-  pub printable-end : length l ≤ i → true ≡ all printable (drop i l)
-  unfolding all
+  pub printable-end : length l ≤ i → true ≡ allOf printable (drop i l)
+  unfolding allOf
   printable-end h = rw (drop-of-length-le l h)
 
   -- What stands before the comment, one byte after the other.

@@ -8,7 +8,7 @@ use Prim.Native.Nat.{ℕ, suc}
 use borrow.Author.Tests.{eq-eqb, ne-eqb}
 use lib.Dec.{T, eqb}
 use Rattle.numbers.specs.Bytes.{ascii}
-use Rattle.numbers.specs.Tests.{all, eqList, numbered}
+use Rattle.numbers.specs.Tests.{allOf, eqList, numbered}
 use Rattle.program.specs.Names.{Name}
 use Rattle.program.specs.Cells.{operatorNumber, comparisonNumber}
 use Rattle.program.specs.Statements.{Operator, Plus, Minus, Times, Divided, BitAnd, BitOr, BitXor, Comparison, Equal, Unequal, Less, AtMost, Greater, AtLeast}
@@ -70,12 +70,12 @@ comparison-placed w =
     six (eqList (ascii "=") w) (eqList (ascii "<>") w) (eqList (ascii "<") w) (eqList (ascii "<=") w) (eqList (ascii ">") w) (eqList (ascii ">=") w)
 
 -- A sign is a word.
-operators-words : T (all isWord operatorSigns)
-unfolding all operatorSigns ascii
+operators-words : T (allOf isWord operatorSigns)
+unfolding allOf operatorSigns ascii
 operators-words = tt
 
-comparisons-words : T (all isWord comparisonSigns)
-unfolding all comparisonSigns ascii
+comparisons-words : T (allOf isWord comparisonSigns)
+unfolding allOf comparisonSigns ascii
 comparisons-words = tt
 
 pub operator-word : (w : Name) → T (isOperator w) → IsWord w

@@ -9,12 +9,12 @@ use native.Mathlib.Omega.{arith}
 use borrow.Author.Tests.{leb-true, leb-false, ne-eqb}
 use lib.Dec.{T, eqb, leb}
 use lib.ListN.{length, getD}
-use Rattle.numbers.specs.Tests.{all, eqList, numbered}
+use Rattle.numbers.specs.Tests.{allOf, eqList, numbered}
 use Rattle.program.specs.Names.{Name, paperVariable, userName}
 use Rattle.program.specs.Code.{key, nameOf}
 use Rattle.program.proofs.Keys.{both, either, Character, Characters, IsWord, single, double, word-of, name-key, name-one, name-two, one-or-two, key-positive, eq-key-name, eqList-eq, user-word, paper-word, numbered-word, isWord}
 use Rattle.text.specs.Tokens as Paper
-use Rattle.text.specs.Tokens.{printable, uncommented, joins, longer, tokens}
+use Rattle.text.specs.Tokens.{printable, uncommented, joins, ontoFirstToken, tokens}
 use Rattle.text.specs.Forms.{variableName}
 use Rattle.text.specs.Code.{shortKey, spelt}
 
@@ -36,10 +36,10 @@ printable-character c t =
     true-of true t = refl
     true-of false t = absurd t
 
-printable-characters : (l : List ℕ) → T (all printable l) → Characters l
-unfolding all
+printable-characters : (l : List ℕ) → T (allOf printable l) → Characters l
+unfolding allOf
 printable-characters [] t = tt
-printable-characters (c ∷ l) t = let p = both (printable c) (all printable l) t in (printable-character c (p .0), printable-characters l (p .1))
+printable-characters (c ∷ l) t = let p = both (printable c) (allOf printable l) t in (printable-character c (p .0), printable-characters l (p .1))
 
 code-characters : (l : List ℕ) → Characters l → Characters (uncommented l)
 unfolding uncommented
@@ -50,8 +50,8 @@ code-characters (c ∷ l) h = pick (eqb c 39) (code-characters l (h .1))
     pick true g = tt
     pick false g = (h .0, g)
 
-longer-good : (c : ℕ) (ts : List Paper.Token) → Character c → Goods ts → Goods (longer c ts)
-unfolding longer
+longer-good : (c : ℕ) (ts : List Paper.Token) → Character c → Goods ts → Goods (ontoFirstToken c ts)
+unfolding ontoFirstToken
 longer-good c [] h g = tt
 longer-good c (t ∷ ts) h g = (((h, g .0 .0), omega arith), g .1)
 
@@ -67,7 +67,7 @@ tokens-good (c ∷ l) h =
     goods-cond (eqb c 32) _ _ g (goods-cond (joins c (getD l 0 32)) _ _ (longer-good c (tokens l) (h .0) g) (((h .0, tt), omega arith), g))
 
 -- The tokens of a line are good.
-pub line-good : (l : List ℕ) → all printable l ≡ true → Goods (tokens (uncommented l))
+pub line-good : (l : List ℕ) → allOf printable l ≡ true → Goods (tokens (uncommented l))
 line-good l e = tokens-good (uncommented l) (code-characters l (printable-characters l (subst T (sym e) tt)))
 
 -- A token of one or two characters is a word, which its key gives back; of a longer one the key is 0.
@@ -122,7 +122,7 @@ module _ (P : Name → Bool) (passed : (w : Name) → T (P w) → IsWord w) wher
 not-zero : (n : ℕ) → T (not (eqb n 0)) → n ≡ 0 → ⊥
 not-zero n t e = subst (λ (k : ℕ). T (not (eqb k 0))) e t
 
-module _ (names : List Name) (all-words : T (all isWord names)) where
+module _ (names : List Name) (all-words : T (allOf isWord names)) where
   pub listed-word : (w : Name) → T (not (eqb (numbered names w) 0)) → IsWord w
   listed-word w t = numbered-word names w all-words (not-zero (numbered names w) t)
 

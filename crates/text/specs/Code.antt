@@ -10,7 +10,7 @@ use lib.Dec.{eqb, leb, ltb}
 use lib.ListN.{length, take, drop, getD, set, replicate}
 use lib.IntN.{ℤ, pos, negℤ}
 use Rattle.numbers.specs.Bytes.{ascii}
-use Rattle.numbers.specs.Tests.{all, lowest}
+use Rattle.numbers.specs.Tests.{allOf, lowest}
 use Rattle.program.specs.Names.{Name, digit, reserved, twoCharacters, userName}
 use Rattle.program.specs.Code.{key, nameOf}
 use Rattle.program.specs.Cells.{cell, cellOf, noTarget, operatorNumber, comparisonNumber}
@@ -400,7 +400,7 @@ unfoldable pub statementBy : Tokens → Reading
 statementBy ts = cond (eqb (ts .count) 0) (faulty 0) (cond (eqb (ts .count) 9) (faulty 3) (formBy (formNumbers 21 0) ts))
 
 unfoldable pub lineBy : List ℕ → Reading
-lineBy l = cond (longLine l) (faulty 2) (cond (all printable l) (statementBy (packed (tokens (uncommented l)))) (faulty 3))
+lineBy l = cond (longLine l) (faulty 2) (cond (allOf printable l) (statementBy (packed (tokens (uncommented l)))) (faulty 3))
 
 -- What a line says to the code: names are keys.
 unfoldable pub saidBy : Line → Reading

@@ -7,7 +7,7 @@ use Prim.Native.Nat.{ℕ, zero, suc, _+_}
 use lib.Dec.{eqb, leb, ltb}
 use lib.IntN.{ℤ}
 use lib.ListN.{length, getD}
-use Rattle.numbers.specs.Tests.{eqList, any, lowest}
+use Rattle.numbers.specs.Tests.{eqList, anyOf, lowest}
 use Rattle.program.specs.Names.{Name, reserved, paperVariable}
 use Rattle.program.specs.Variables.{inRange, literals, readOnly, mostCells, mostLabels, mostVariables}
 use Rattle.program.specs.Statements.{Value, Literal, Variable, Statement, operands, writes, targets}
@@ -38,7 +38,7 @@ unfoldable pub bigIn : Line → Bool
 bigIn Blank = false
 bigIn (Label w) = false
 bigIn (Declared w z) = tooBig z
-bigIn (Acts s) = any bigValue (operands s)
+bigIn (Acts s) = anyOf bigValue (operands s)
 
 -- Refusals 4, Text 13: a literal outside its range.
 unfoldable pub bigLiteral : List ℕ → Bool
@@ -53,7 +53,7 @@ declares (Acts s) = []
 
 -- Refusals 5, Text 12: LB or VA of a reserved name.
 unfoldable pub reservedName : List ℕ → Bool
-reservedName l = elim (reading l) [ none ↦ false | some x ↦ any reserved (declares x) ]
+reservedName l = elim (reading l) [ none ↦ false | some x ↦ anyOf reserved (declares x) ]
 
 -- Refusals 21: what a line says to others: nothing where it has one of the faults 2 to 5.
 unfoldable pub heard : List ℕ → Line
@@ -81,23 +81,23 @@ makesVariable (Declared w z) = true
 makesVariable (Acts s) = false
 
 -- How many of the lines pass the test.
-unfoldable pub count : (Line → Bool) → List Line → ℕ
-count p [] = 0
-count p (x ∷ xs) = let n = count p xs in cond (p x) (suc n) n
+unfoldable pub howMany : (Line → Bool) → List Line → ℕ
+howMany p [] = 0
+howMany p (x ∷ xs) = let n = howMany p xs in cond (p x) (suc n) n
 
 unfoldable pub declaresIt : Name → Line → Bool
-declaresIt w x = any (eqList w) (declares x)
+declaresIt w x = anyOf (eqList w) (declares x)
 
 -- Refusals 6: a name that a line before declares.
 unfoldable pub repeated : List Line → Line → Bool
-repeated before x = any (λ w. any (declaresIt w) before) (declares x)
+repeated before x = anyOf (λ w. anyOf (declaresIt w) before) (declares x)
 
 -- Refusals 7, Variables 5: a cell, label or variable too many.
 unfoldable pub tooMany : List Line → Line → Bool
 tooMany before x =
-    (makesCell x && leb mostCells (count makesCell before))
-    || ((makesLabel x && leb mostLabels (count makesLabel before))
-    || (makesVariable x && leb mostVariables (count makesVariable before)))
+    (makesCell x && leb mostCells (howMany makesCell before))
+    || ((makesLabel x && leb mostLabels (howMany makesLabel before))
+    || (makesVariable x && leb mostVariables (howMany makesVariable before)))
 
 -- Refusals 8: the first line that declares the name makes what is asked for.
 unfoldable pub firstMakes : (Line → Bool) → Name → List Line → Bool
@@ -113,8 +113,8 @@ unknownValue text (Variable v) = unknownVariable text v
 
 unfoldable pub unknownIn : List Line → Statement Name → Bool
 unknownIn text s =
-    any (λ n. not (firstMakes makesLabel n text)) (targets s)
-    || (any (unknownVariable text) (writes s) || any (unknownValue text) (operands s))
+    anyOf (λ n. not (firstMakes makesLabel n text)) (targets s)
+    || (anyOf (unknownVariable text) (writes s) || anyOf (unknownValue text) (operands s))
 
 -- Refusals 8: a name that is not declared, or first declared as the other kind.
 unfoldable pub undeclared : List Line → Line → Bool
@@ -128,7 +128,7 @@ unfoldable pub readOnlyWritten : Line → Bool
 readOnlyWritten Blank = false
 readOnlyWritten (Label w) = false
 readOnlyWritten (Declared w z) = false
-readOnlyWritten (Acts s) = any (λ v. readOnly (paperVariable v)) (writes s)
+readOnlyWritten (Acts s) = anyOf (λ v. readOnly (paperVariable v)) (writes s)
 
 -- The rows 2 to 9 for a line l of a text, with what the whole text says and what the lines before l say.
 unfoldable pub faults : List Line → List Line → List ℕ → List Bool

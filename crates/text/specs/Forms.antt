@@ -8,7 +8,7 @@ use lib.Dec.{eqb, leb}
 use lib.IntN.{ℤ, pos, negℤ}
 use lib.ListN.{length}
 use Rattle.numbers.specs.Bytes.{ascii}
-use Rattle.numbers.specs.Tests.{eqList, all}
+use Rattle.numbers.specs.Tests.{eqList, allOf}
 use Rattle.program.specs.Names.{Name, digit, paperVariable, userName, twoCharacters}
 use Rattle.program.specs.Statements.{Value, Literal, Variable, Operator, Plus, Minus, Times, Divided, BitAnd, BitOr, BitXor, Comparison, Equal, Unequal, Less, AtMost, Greater, AtLeast, Always, Compare, Statement, Set, SetWith, IC, DC, BR, CL, RT, E, H, Hold, OE, Disarm, MA, MR, SL, PR}
 use Rattle.text.specs.Tokens.{Token, tokens, uncommented, printable}
@@ -52,7 +52,7 @@ comparisonMeant w = meant comparisonSign (Equal ∷ Unequal ∷ Less ∷ AtMost 
 
 -- Text 13, Text 15: 1 to 10 digits.
 unfoldable pub digits : Token → Bool
-digits t = all digit (t .chars) && leb (length (t .chars)) 10
+digits t = allOf digit (t .chars) && leb (length (t .chars)) 10
 
 -- Text 13: the number that digits write, behind the number v.
 unfoldable pub decimal : ℕ → List ℕ → ℕ
@@ -214,4 +214,4 @@ statement (t ∷ ts) = byForm forms (t ∷ ts)
 
 -- Text 5 to 8: what a line says, or none where a byte is bad or no form fits.
 unfoldable pub reading : List ℕ → Option Line
-reading l = cond (all printable l) (statement (tokens (uncommented l))) none
+reading l = cond (allOf printable l) (statement (tokens (uncommented l))) none

@@ -7,9 +7,9 @@ use lib.Dec.{eqb}
 use lib.ListN.{getD}
 
 -- One more byte in front of the first line.
-unfoldable pub before : ℕ → List (List ℕ) → List (List ℕ)
-before b [] = (b ∷ []) ∷ []
-before b (l ∷ ls) = (b ∷ l) ∷ ls
+unfoldable pub ontoFirstLine : ℕ → List (List ℕ) → List (List ℕ)
+ontoFirstLine b [] = (b ∷ []) ∷ []
+ontoFirstLine b (l ∷ ls) = (b ∷ l) ∷ ls
 
 -- Text 2, Text 3: an LF (10) ends a line, the last line needs none and a final one starts no further line; one CR (13) directly before an LF is dropped.
 unfoldable pub lines : List ℕ → List (List ℕ)
@@ -17,5 +17,5 @@ lines [] = []
 lines (b ∷ bs) =
     let more = lines bs in
     let ended = [] ∷ more in
-    let longer = before b more in
-    cond (eqb b 10) ended (cond (eqb b 13 && eqb (getD bs 0 0) 10) more longer)
+    let lengthened = ontoFirstLine b more in
+    cond (eqb b 10) ended (cond (eqb b 13 && eqb (getD bs 0 0) 10) more lengthened)

@@ -28,9 +28,9 @@ joins c d =
     || ((eqb c 60 && (eqb d 61 || eqb d 62)) || (eqb c 62 && eqb d 61))
 
 -- One more character in front of the first token.
-unfoldable pub longer : ℕ → List Token → List Token
-longer c [] = []
-longer c (t ∷ ts) = record { chars = c ∷ t .chars; glued = t .glued } ∷ ts
+unfoldable pub ontoFirstToken : ℕ → List Token → List Token
+ontoFirstToken c [] = []
+ontoFirstToken c (t ∷ ts) = record { chars = c ∷ t .chars; glued = t .glued } ∷ ts
 
 -- Text 7, Text 10: the tokens are the longest runs of neighbours that belong together; spaces (32) only separate them.
 unfoldable pub tokens : List ℕ → List Token
@@ -39,5 +39,5 @@ tokens (c ∷ cs) =
     let more = tokens cs in
     let next = getD cs 0 32 in
     let alone : List Token = record { chars = c ∷ []; glued = not (eqb next 32) } ∷ more in
-    let joined = longer c more in
-    cond (eqb c 32) more (cond (joins c next) joined alone)
+    let lengthened = ontoFirstToken c more in
+    cond (eqb c 32) more (cond (joins c next) lengthened alone)

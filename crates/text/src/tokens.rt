@@ -4,7 +4,7 @@ ghost use mathlib.Core.Path.{_≡_};
 ghost use mathlib.Core.Bool.{true};
 ghost use Prim.Native.Nat.{_<_};
 ghost use lib.ListN.{length, getD};
-ghost use Rattle.numbers.specs.Tests.{all};
+ghost use Rattle.numbers.specs.Tests.{allOf};
 ghost use Rattle.program.specs.Names.{wordCharacter};
 ghost use Rattle.text.specs.Tokens.{printable, uncommented, tokens, joins};
 ghost use Rattle.text.specs.Code.{noWord, Room, keyWith, valueWith, grown, tokenOf, ends, noToken, noTokens, tokenAt, pushed, packed};
@@ -193,7 +193,7 @@ fn is_allowed(b: u8) -> bool
 
 // Every byte of a line may stand in a text.
 pub fn is_printable(l: &[u8]) -> bool
-    ensures { λ r. ⌜ r ≡ all printable (now (l .entry)) ⌝ }
+    ensures { λ r. ⌜ r ≡ allOf printable (now (l .entry)) ⌝ }
 {
     let mut i: usize = 0;
     while i < l.len() {

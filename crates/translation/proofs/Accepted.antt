@@ -15,7 +15,7 @@ use Rattle.names.specs.Code.{plus}
 use Rattle.names.proofs.Lines.{count-more}
 use Rattle.text.specs.Lines.{lines}
 use Rattle.text.specs.Forms.{Line, Blank, Label, Declared, Acts, reading}
-use Rattle.text.specs.Faults.{longLine, badForm, bigIn, bigLiteral, reservedName, heard, repeated, tooMany, undeclared, readOnlyWritten, faults, faultFrom, firstFault, fault, said, count, makesCell, makesLabel, makesVariable}
+use Rattle.text.specs.Faults.{longLine, badForm, bigIn, bigLiteral, reservedName, heard, repeated, tooMany, undeclared, readOnlyWritten, faults, firstFrom, faultsFrom, textFaults, firstFault, fault, said, howMany, makesCell, makesLabel, makesVariable}
 
 -- none of the tests holds
 abbrev pub NoneOf : List Bool → Type 0
@@ -34,14 +34,14 @@ Clean text before [] = Unit {0}
 Clean text before (l ∷ ls) = NoneOf (faults text before l) × Clean text (before ++ (heard l ∷ [])) ls
 
 clean-step : (text before : List Line) (line n : ℕ) (l : List ℕ) (ls : List (List ℕ)) → lowest 2 (faults text before l) ≡ n
-    → (faultFrom text (suc line) (before ++ (heard l ∷ [])) ls .number ≡ 0 → Clean text (before ++ (heard l ∷ [])) ls)
-    → cond (eqb n 0) (faultFrom text (suc line) (before ++ (heard l ∷ [])) ls) (fault n line) .number ≡ 0 → Clean text before (l ∷ ls)
+    → (firstFrom (suc line) (faultsFrom text (before ++ (heard l ∷ [])) ls) .number ≡ 0 → Clean text (before ++ (heard l ∷ [])) ls)
+    → cond (eqb n 0) (firstFrom (suc line) (faultsFrom text (before ++ (heard l ∷ [])) ls)) (fault n line) .number ≡ 0 → Clean text before (l ∷ ls)
 clean-step text before line zero l ls e ih h = (lowest-none 1 (faults text before l) e, ih h)
 clean-step text before line (suc n) l ls e ih h =
     let z : _≡_ {A = ℕ} (suc n) 0 = rw (eqb·suc-zero n) at h in absurd (omega arith)
 
-pub clean : (text before : List Line) (line : ℕ) (ls : List (List ℕ)) → faultFrom text line before ls .number ≡ 0 → Clean text before ls
-unfolding faultFrom
+pub clean : (text before : List Line) (line : ℕ) (ls : List (List ℕ)) → firstFrom line (faultsFrom text before ls) .number ≡ 0 → Clean text before ls
+unfolding firstFrom faultsFrom
 clean text before line [] h = tt
 clean text before line (l ∷ ls) h = clean-step text before line (lowest 2 (faults text before l)) l ls refl (clean text (before ++ (heard l ∷ [])) (suc line) ls) h
 
@@ -63,13 +63,13 @@ limit-step false most n h k = k
 module _ (p : Line → Bool) (most : ℕ) where
   abbrev Behind : List Line → List (List ℕ) → Type 0
   Behind before [] = Unit {0}
-  Behind before (l ∷ ls) = ((p (heard l) && leb most (count p before)) ≡ false) × Behind (before ++ (heard l ∷ [])) ls
+  Behind before (l ∷ ls) = ((p (heard l) && leb most (howMany p before)) ≡ false) × Behind (before ++ (heard l ∷ [])) ls
 
-  limit : (before : List Line) (ls : List (List ℕ)) → Behind before ls → count p before ≤ most → count p (before ++ map heard ls) ≤ most
+  limit : (before : List Line) (ls : List (List ℕ)) → Behind before ls → howMany p before ≤ most → howMany p (before ++ map heard ls) ≤ most
   limit before [] h k = rw (append-nil before) k
   limit before (l ∷ ls) h k =
       rw (← append-assoc before (heard l ∷ []) (map heard ls))
-      (limit (before ++ (heard l ∷ [])) ls (h .1) (rw (count-more p before (heard l)) (limit-step (p (heard l)) most (count p before) (h .0) k)))
+      (limit (before ++ (heard l ∷ [])) ls (h .1) (rw (count-more p before (heard l)) (limit-step (p (heard l)) most (howMany p before) (h .0) k)))
 
 -- the faults of one line, by name
 module _ (text before : List Line) (l : List ℕ) (h : NoneOf (faults text before l)) where
@@ -106,7 +106,7 @@ module _ (text before : List Line) (l : List ℕ) (h : NoneOf (faults text befor
   no-read-only = h .1 .1 .1 .1 .1 .1 .1 .0
 
 abbrev tests : (Line → Bool) → ℕ → List Line → List ℕ → Bool
-tests p most before l = p (heard l) && leb most (count p before)
+tests p most before l = p (heard l) && leb most (howMany p before)
 
 module _ (text : List Line) where
   cells-behind : (before : List Line) (ls : List (List ℕ)) → Clean text before ls → Behind makesCell mostCells before ls
@@ -135,17 +135,17 @@ module _ (text : List Line) where
 -- a text without a fault keeps the limits
 module _ (text : List ℕ) (h : firstFault text .number ≡ 0) where
   pub all-clean : Clean (said text) [] (lines text)
-  unfolding firstFault
+  unfolding firstFault textFaults
   all-clean = clean (said text) [] 1 (lines text) h
 
-  pub few-cells : count makesCell (said text) ≤ 256
-  unfolding said mostCells count
+  pub few-cells : howMany makesCell (said text) ≤ 256
+  unfolding said mostCells howMany
   few-cells = limit makesCell mostCells [] (lines text) (cells-behind (said text) [] (lines text) all-clean) (omega arith)
 
-  pub few-labels : count makesLabel (said text) ≤ 160
-  unfolding said mostLabels count
+  pub few-labels : howMany makesLabel (said text) ≤ 160
+  unfolding said mostLabels howMany
   few-labels = limit makesLabel mostLabels [] (lines text) (labels-behind (said text) [] (lines text) all-clean) (omega arith)
 
-  pub few-variables : count makesVariable (said text) ≤ 32
-  unfolding said mostVariables count
+  pub few-variables : howMany makesVariable (said text) ≤ 32
+  unfolding said mostVariables howMany
   few-variables = limit makesVariable mostVariables [] (lines text) (variables-behind (said text) [] (lines text) all-clean) (omega arith)

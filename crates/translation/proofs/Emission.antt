@@ -1,12 +1,11 @@
 -- Three runs of parts written side by side, each into its own room, give the three joined lists.
 -- Assumes nothing.
 use mathlib.Core.Path.{_≡_, refl, sym, ap, _∙_, subst}
-use mathlib.Core.List.{List, [], _∷_, _++_, append-assoc}
+use mathlib.Core.List.{List, [], _∷_, _++_, append-assoc, flatMap}
 use Prim.Native.Nat.{ℕ, suc, _+_, _-_, _≤_}
 use native.Mathlib.Omega.{arith}
 use lib.ListN.{length, take, drop, set, length-append, take-append-drop, length-take, length-drop}
 use lib.Seq.{sets, sets-eq, take-at, drop-at, length-take-le}
-use Rattle.numbers.specs.Tests.{joined}
 use Rattle.translation.specs.Code.{emitFrom}
 
 -- a list written over as many elements behind a prefix
@@ -63,26 +62,26 @@ module _ {A : Type 0} (f g h : A → List ℕ) where
   abbrev Fits : ℕ → ℕ → ℕ → List A → List ℕ → List ℕ → List ℕ → List ℕ → List ℕ → List ℕ → List ℕ → Type 0
   Fits i j k xs p x q y r z t =
       emitFrom f g h i j k xs (p ++ (x ++ (q ++ (y ++ (r ++ (z ++ t))))))
-      ≡ p ++ (joined f xs ++ (q ++ (joined g xs ++ (r ++ (joined h xs ++ t)))))
+      ≡ p ++ (flatMap f xs ++ (q ++ (flatMap g xs ++ (r ++ (flatMap h xs ++ t)))))
 
   pub emitted : (xs : List A) (i j k : ℕ) (p x q y r z t : List ℕ)
-      → length x ≡ length (joined f xs) → length y ≡ length (joined g xs) → length z ≡ length (joined h xs)
+      → length x ≡ length (flatMap f xs) → length y ≡ length (flatMap g xs) → length z ≡ length (flatMap h xs)
       → i ≡ length p → j ≡ length p + (length x + length q) → k ≡ length p + (length x + (length q + (length y + length r)))
       → Fits i j k xs p x q y r z t
-  unfolding emitFrom joined
+  unfolding emitFrom flatMap
   emitted [] i j k p x q y r z t a b c d e o = rw (nothing x a, nothing y b, nothing z c)
   emitted (w ∷ ws) i j k p x q y r z t a b c d e o =
       let u = f w in
       let v = g w in
       let s = h w in
-      let ux = front-length x u (joined f ws) a in
-      let uy = front-length y v (joined g ws) b in
-      let uz = front-length z s (joined h ws) c in
-      let rx = rest-length x u (joined f ws) a in
-      let ry = rest-length y v (joined g ws) b in
-      let rz = rest-length z s (joined h ws) c in
-      let nx : length x ≡ length u + length (joined f ws) = a ∙ length-append u (joined f ws) in
-      let ny : length y ≡ length v + length (joined g ws) = b ∙ length-append v (joined g ws) in
+      let ux = front-length x u (flatMap f ws) a in
+      let uy = front-length y v (flatMap g ws) b in
+      let uz = front-length z s (flatMap h ws) c in
+      let rx = rest-length x u (flatMap f ws) a in
+      let ry = rest-length y v (flatMap g ws) b in
+      let rz = rest-length z s (flatMap h ws) c in
+      let nx : length x ≡ length u + length (flatMap f ws) = a ∙ length-append u (flatMap f ws) in
+      let ny : length y ≡ length v + length (flatMap g ws) = b ∙ length-append v (flatMap g ws) in
       ap (λ (l : List ℕ). emitFrom f g h (i + length u) (j + length v) (k + length s) ws l)
       (written p x q y r z t (take (length u) x) (drop (length u) x) (take (length v) y) (drop (length v) y) (take (length s) z) (drop (length s) z) u v s i j k
       (sym (take-append-drop (length u) x)) (sym (take-append-drop (length v) y)) (sym (take-append-drop (length s) z)) ux uy uz d e o)

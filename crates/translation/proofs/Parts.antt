@@ -2,7 +2,7 @@
 -- Assumes nothing.
 use mathlib.Core.Path.{_≡_, refl, sym, ap, _∙_}
 use mathlib.Core.Bool.{Bool, true, false, cond}
-use mathlib.Core.List.{List, [], _∷_, _++_, append-assoc}
+use mathlib.Core.List.{List, [], _∷_, _++_, append-assoc, flatMap}
 use Prim.Native.Nat.{ℕ, zero, suc, _+_, _*_, _-_, _≤_}
 use native.Mathlib.Nat.{mul-suc, mul-zero}
 use native.Mathlib.Omega.{arith}
@@ -11,12 +11,11 @@ use lib.ListN.{length, take, drop, length-append, length-drop, take-append-drop}
 use lib.Seq.{sets, length-take-le, drop-drop, drop-at}
 use Rattle.numbers.specs.Bytes.{bytes}
 use Rattle.numbers.specs.Bits.{digits32}
-use Rattle.numbers.specs.Tests.{joined}
 use Rattle.numbers.proofs.Laws.{length-bytes}
 use Rattle.program.specs.Names.{Name}
 use Rattle.program.specs.Cells.{cellOf}
 use Rattle.text.specs.Forms.{Line, Blank, Label, Declared, Acts}
-use Rattle.text.specs.Faults.{count, makesCell, makesLabel, makesVariable, placeOf, numberOf}
+use Rattle.text.specs.Faults.{howMany, makesCell, makesLabel, makesVariable, placeOf, numberOf}
 use Rattle.image.specs.Layout.{cellBytes, labelBytes, variableBytes, trailerBytes, imageLength}
 use Rattle.image.proofs.Laws.{length-cell, length-trailer}
 use Rattle.translation.specs.Images.{cellPart, labelPart, variablePart, imageOf}
@@ -81,10 +80,10 @@ module _ (f : Line → List ℕ) (p : Line → Bool) (size : ℕ) where
   sum-each true n = omega (arith, mul-suc size n)
   sum-each false n = omega arith
 
-  pub joined-length : (xs : List Line) → Sized xs → length (joined f xs) ≡ size * count p xs
-  unfolding joined count
-  joined-length [] h = sym (mul-zero size)
-  joined-length (x ∷ xs) h = length-append (f x) (joined f xs) ∙ rw (h .0, joined-length xs (h .1)) (sum-each (p x) (count p xs))
+  pub parts-length : (xs : List Line) → Sized xs → length (flatMap f xs) ≡ size * howMany p xs
+  unfolding flatMap howMany
+  parts-length [] h = sym (mul-zero size)
+  parts-length (x ∷ xs) h = length-append (f x) (flatMap f xs) ∙ rw (h .0, parts-length xs (h .1)) (sum-each (p x) (howMany p xs))
 
 pub cells-sized : (text xs : List Line) → Sized (cellPart text) makesCell 16 xs
 cells-sized text [] = tt
@@ -100,9 +99,9 @@ variables-sized (x ∷ xs) h = (variable-length x (h .0), variables-sized xs (h 
 
 -- Three runs of parts and a last list, written into a buffer with room for them.
 module _ {A : Type 0} (f g h : A → List ℕ) (xs : List A) (c l v n : ℕ) (last b : List ℕ)
-    (ec : length (joined f xs) ≡ c) (el : length (joined g xs) ≡ l) (ev : length (joined h xs) ≡ v) (en : length last ≡ n)
+    (ec : length (flatMap f xs) ≡ c) (el : length (flatMap g xs) ≡ l) (ev : length (flatMap h xs) ≡ v) (en : length last ≡ n)
     (room : c + (l + (v + n)) ≤ length b) where
-  all-written : sets (emitFrom f g h 0 c (c + l) xs b) (c + l + v) last ≡ (joined f xs ++ (joined g xs ++ (joined h xs ++ last))) ++ drop (c + (l + (v + n))) b
+  all-written : sets (emitFrom f g h 0 c (c + l) xs b) (c + l + v) last ≡ (flatMap f xs ++ (flatMap g xs ++ (flatMap h xs ++ last))) ++ drop (c + (l + (v + n))) b
   all-written =
       let x : List ℕ = take c b in
       let b₁ : List ℕ = drop c b in
@@ -122,51 +121,51 @@ module _ {A : Type 0} (f g h : A → List ℕ) (xs : List A) (c l v n : ℕ) (la
       let cut : x ++ (y ++ (z ++ (w ++ r))) ≡ b =
       ap (λ (s : List ℕ). x ++ (y ++ (z ++ s))) (take-append-drop n b₃) ∙ ap (λ (s : List ℕ). x ++ (y ++ s)) (take-append-drop v b₂)
       ∙ ap (λ (s : List ℕ). x ++ s) (take-append-drop l b₁) ∙ take-append-drop c b in
-      let parts : emitFrom f g h 0 c (c + l) xs (x ++ (y ++ (z ++ (w ++ r)))) ≡ joined f xs ++ (joined g xs ++ (joined h xs ++ (w ++ r))) =
+      let parts : emitFrom f g h 0 c (c + l) xs (x ++ (y ++ (z ++ (w ++ r)))) ≡ flatMap f xs ++ (flatMap g xs ++ (flatMap h xs ++ (w ++ r))) =
       emitted f g h xs 0 c (c + l) [] x [] y [] z (w ++ r) (nx ∙ sym ec) (ny ∙ sym el) (nz ∙ sym ev) refl (omega arith) (omega arith) in
-      let front : length (joined f xs ++ (joined g xs ++ joined h xs)) ≡ c + l + v =
-      length-append (joined f xs) (joined g xs ++ joined h xs) ∙ omega (arith, length-append (joined g xs) (joined h xs)) in
-      let trailed : sets (joined f xs ++ (joined g xs ++ (joined h xs ++ (w ++ r)))) (c + l + v) last ≡ joined f xs ++ (joined g xs ++ (joined h xs ++ (last ++ r))) =
-      simp append-assoc at (sets-mid (joined f xs ++ (joined g xs ++ joined h xs)) w r last (c + l + v) (sym front) (nw ∙ sym en)) in
+      let front : length (flatMap f xs ++ (flatMap g xs ++ flatMap h xs)) ≡ c + l + v =
+      length-append (flatMap f xs) (flatMap g xs ++ flatMap h xs) ∙ omega (arith, length-append (flatMap g xs) (flatMap h xs)) in
+      let trailed : sets (flatMap f xs ++ (flatMap g xs ++ (flatMap h xs ++ (w ++ r)))) (c + l + v) last ≡ flatMap f xs ++ (flatMap g xs ++ (flatMap h xs ++ (last ++ r))) =
+      simp append-assoc at (sets-mid (flatMap f xs ++ (flatMap g xs ++ flatMap h xs)) w r last (c + l + v) (sym front) (nw ∙ sym en)) in
       let rest : r ≡ drop (c + (l + (v + n))) b =
       drop-drop n v b₂ ∙ drop-drop (v + n) l b₁ ∙ drop-drop (l + (v + n)) c b in
       ap (λ (s : List ℕ). sets (emitFrom f g h 0 c (c + l) xs s) (c + l + v) last) (sym cut)
       ∙ ap (λ (s : List ℕ). sets s (c + l + v) last) parts
       ∙ trailed
-      ∙ ap (λ (s : List ℕ). joined f xs ++ (joined g xs ++ (joined h xs ++ (last ++ s)))) rest
+      ∙ ap (λ (s : List ℕ). flatMap f xs ++ (flatMap g xs ++ (flatMap h xs ++ (last ++ s)))) rest
       ∙ simp append-assoc
 
 module _ (text : List Line) (two : AllTwo text) where
   abbrev C : ℕ
-  C = count makesCell text
+  C = howMany makesCell text
 
   abbrev L : ℕ
-  L = count makesLabel text
+  L = howMany makesLabel text
 
   abbrev W : ℕ
-  W = count makesVariable text
+  W = howMany makesVariable text
 
-  pub cells-length : length (joined (cellPart text) text) ≡ 16 * C
-  cells-length = joined-length (cellPart text) makesCell 16 text (cells-sized text text)
+  pub cells-length : length (flatMap (cellPart text) text) ≡ 16 * C
+  cells-length = parts-length (cellPart text) makesCell 16 text (cells-sized text text)
 
-  pub labels-length : length (joined (labelPart text) text) ≡ 4 * L
-  labels-length = joined-length (labelPart text) makesLabel 4 text (labels-sized text text two)
+  pub labels-length : length (flatMap (labelPart text) text) ≡ 4 * L
+  labels-length = parts-length (labelPart text) makesLabel 4 text (labels-sized text text two)
 
-  pub variables-length : length (joined variablePart text) ≡ 8 * W
-  variables-length = joined-length variablePart makesVariable 8 text (variables-sized text two)
+  pub variables-length : length (flatMap variablePart text) ≡ 8 * W
+  variables-length = parts-length variablePart makesVariable 8 text (variables-sized text two)
 
   pub image-length : length (imageOf text) ≡ imageLength C L W
   unfolding imageOf imageLength
   image-length =
-      length-append (joined (cellPart text) text) (joined (labelPart text) text ++ (joined variablePart text ++ trailerBytes C L W))
+      length-append (flatMap (cellPart text) text) (flatMap (labelPart text) text ++ (flatMap variablePart text ++ trailerBytes C L W))
       ∙ omega (
         arith,
         cells-length,
         labels-length,
         variables-length,
         length-trailer C L W,
-        length-append (joined (labelPart text) text) (joined variablePart text ++ trailerBytes C L W),
-        length-append (joined variablePart text) (trailerBytes C L W),
+        length-append (flatMap (labelPart text) text) (flatMap variablePart text ++ trailerBytes C L W),
+        length-append (flatMap variablePart text) (trailerBytes C L W),
       )
 
   -- Image 1, Image 5: the parts and the trailer written into a buffer with room for them

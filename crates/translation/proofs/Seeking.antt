@@ -12,7 +12,7 @@ use lib.ListN.{length, take, drop, getD, length-append}
 use lib.Seq.{take-at, getD-at}
 use Rattle.text.specs.Lines.{lines}
 use Rattle.text.specs.Forms.{Line, Blank, Label, Declared, Acts}
-use Rattle.text.specs.Faults.{heard, said, count, makesCell}
+use Rattle.text.specs.Faults.{heard, said, howMany, makesCell}
 use Rattle.text.specs.Code.{Starts, LineAt, readingOf, saidBy}
 use Rattle.text.specs.declared.Span.{Span}
 use Rattle.text.specs.declared.forms.Reading.{Reading}
@@ -106,9 +106,9 @@ behind : {line k : ℕ} {y : Line} (xs : List Line) (x : Line) → (suc line ≤
 behind {line} {k} xs x p = let l = p .0 in let e : k - line ≡ suc (k - suc line) = omega arith in (omega arith, rw e (p .1))
 
 -- A place with a statement has a line, and that line says the statement; a place without one has none.
-pub from-there : (line n : ℕ) (xs : List Line) → n < count makesCell xs
+pub from-there : (line n : ℕ) (xs : List Line) → n < howMany makesCell xs
     → (line ≤ lineFrom line xs n) × (getD xs (lineFrom line xs n - line) Blank ≡ Acts (lineAt xs n))
-unfolding lineFrom lineAt count makesCell
+unfolding lineFrom lineAt howMany makesCell
 from-there line n [] h = absurd (omega arith)
 from-there line n (Blank ∷ xs) h = behind xs Blank (from-there (suc line) n xs h)
 from-there line n (Label w ∷ xs) h = behind xs (Label w) (from-there (suc line) n xs h)
@@ -116,12 +116,12 @@ from-there line n (Declared w z ∷ xs) h = behind xs (Declared w z) (from-there
 from-there line zero (Acts s ∷ xs) h = let e : line - line ≡ 0 = omega arith in (omega arith, rw e)
 from-there line (suc n) (Acts s ∷ xs) h = behind xs (Acts s) (from-there (suc line) n xs (omega arith))
 
-pub line-there : (xs : List Line) (n : ℕ) → n < count makesCell xs → getD xs (lineOf xs n - 1) Blank ≡ Acts (lineAt xs n)
+pub line-there : (xs : List Line) (n : ℕ) → n < howMany makesCell xs → getD xs (lineOf xs n - 1) Blank ≡ Acts (lineAt xs n)
 unfolding lineOf
 line-there xs n h = from-there 1 n xs h .1
 
-pub from-none : (line n : ℕ) (xs : List Line) → count makesCell xs ≤ n → lineFrom line xs n ≡ 0
-unfolding lineFrom count makesCell
+pub from-none : (line n : ℕ) (xs : List Line) → howMany makesCell xs ≤ n → lineFrom line xs n ≡ 0
+unfolding lineFrom howMany makesCell
 from-none line n [] h = refl
 from-none line n (Blank ∷ xs) h = from-none (suc line) n xs h
 from-none line n (Label w ∷ xs) h = from-none (suc line) n xs h
@@ -129,6 +129,6 @@ from-none line n (Declared w z ∷ xs) h = from-none (suc line) n xs h
 from-none line zero (Acts s ∷ xs) h = absurd (omega arith)
 from-none line (suc n) (Acts s ∷ xs) h = from-none (suc line) n xs (omega arith)
 
-pub line-none : (xs : List Line) (n : ℕ) → count makesCell xs ≤ n → lineOf xs n ≡ 0
+pub line-none : (xs : List Line) (n : ℕ) → howMany makesCell xs ≤ n → lineOf xs n ≡ 0
 unfolding lineOf
 line-none xs n h = from-none 1 n xs h

@@ -6,7 +6,7 @@ use Prim.Native.Nat.{ℕ, _+_, _*_, _≤_}
 use native.Mathlib.Omega.{arith}
 use lib.ListN.{length, drop}
 use lib.Seq.{sets}
-use Rattle.text.specs.Faults.{said, firstFault, count, makesCell, makesLabel, makesVariable}
+use Rattle.text.specs.Faults.{said, firstFault, howMany, makesCell, makesLabel, makesVariable}
 use Rattle.names.specs.declared.Counts.{Counts}
 use Rattle.names.specs.Code.{countsOf}
 use Rattle.image.specs.Layout.{trailerBytes, imageLength}
@@ -37,10 +37,10 @@ module _ (s : List ℕ) (n : Counts) (e : n ≡ countsOf (said s)) where
   unfolding countsOf
   image-done l v t b c d room p q r f g =
       let xs = said s in
-      let cells : n .cells ≡ count makesCell xs = ap (λ (m : Counts). m .cells) e in
-      let labels : n .labels ≡ count makesLabel xs = ap (λ (m : Counts). m .labels) e in
-      let variables : n .variables ≡ count makesVariable xs = ap (λ (m : Counts). m .variables) e in
-      let l' : l ≡ 16 * count makesCell xs = omega arith in
-      let v' : v ≡ 16 * count makesCell xs + 4 * count makesLabel xs = omega arith in
-      let t' : t ≡ 16 * count makesCell xs + 4 * count makesLabel xs + 8 * count makesVariable xs = omega arith in
+      let cells : n .cells ≡ howMany makesCell xs = ap (λ (m : Counts). m .cells) e in
+      let labels : n .labels ≡ howMany makesLabel xs = ap (λ (m : Counts). m .labels) e in
+      let variables : n .variables ≡ howMany makesVariable xs = ap (λ (m : Counts). m .variables) e in
+      let l' : l ≡ 16 * howMany makesCell xs = omega arith in
+      let v' : v ≡ 16 * howMany makesCell xs + 4 * howMany makesLabel xs = omega arith in
+      let t' : t ≡ 16 * howMany makesCell xs + 4 * howMany makesLabel xs + 8 * howMany makesVariable xs = omega arith in
       g ∙ rw (f, l', v', t', e) (image-written xs (all-two s) b (rw e at room))

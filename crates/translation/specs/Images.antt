@@ -1,13 +1,12 @@
 -- Document 01, "Image": the image of a text.
 -- Assumes nothing.
 use mathlib.Core.Bool.{Bool, _&&_, not}
-use mathlib.Core.List.{List, [], _∷_, _++_}
+use mathlib.Core.List.{List, [], _∷_, _++_, flatMap}
 use Prim.Native.Nat.{ℕ}
 use lib.Dec.{eqb}
-use Rattle.numbers.specs.Tests.{joined}
 use Rattle.program.specs.Cells.{cellOf}
 use Rattle.text.specs.Forms.{Line, Blank, Label, Declared, Acts}
-use Rattle.text.specs.Faults.{overlong, said, firstFault, count, makesCell, makesLabel, makesVariable, placeOf, numberOf}
+use Rattle.text.specs.Faults.{overlong, said, firstFault, howMany, makesCell, makesLabel, makesVariable, placeOf, numberOf}
 use Rattle.image.specs.Layout.{cellBytes, labelBytes, variableBytes, trailerBytes}
 
 -- Image 3, Image 6: the cell of a line; LB and VA make none.
@@ -34,10 +33,10 @@ variablePart (Acts s) = []
 -- Image 1, Image 12, Image 13: the image of a text that says these lines.
 unfoldable pub imageOf : List Line → List ℕ
 imageOf text =
-    joined (cellPart text) text
-    ++ (joined (labelPart text) text
-    ++ (joined variablePart text
-    ++ trailerBytes (count makesCell text) (count makesLabel text) (count makesVariable text)))
+    flatMap (cellPart text) text
+    ++ (flatMap (labelPart text) text
+    ++ (flatMap variablePart text
+    ++ trailerBytes (howMany makesCell text) (howMany makesLabel text) (howMany makesVariable text)))
 
 unfoldable pub image : List ℕ → List ℕ
 image text = imageOf (said text)

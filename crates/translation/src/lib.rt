@@ -59,7 +59,7 @@ fn resolve_target(s: &[u8], target: u16) -> u16
     requires { ⌜ Faultless (now s) ⌝ }
     ensures { λ r. ⌜ r ≡ placed (placeOf (said (now (s .entry)))) target ⌝ }
 {
-    if (target == NO_NAME) | (target == Cell::NO_HANDLER) {
+    if (target == NO_NAME) | (target == Cell::NO_TARGET) {
         return target;
     }
     place_of(s, target)

@@ -7,7 +7,7 @@ use Prim.Native.Nat.{ℕ, _*_}
 use lib.Dec.{eqb, ltb}
 use lib.ListN.{length}
 use Rattle.text.specs.Forms.{Line}
-use Rattle.text.specs.Faults.{said, count, makesCell}
+use Rattle.text.specs.Faults.{said, howMany, makesCell}
 use Rattle.translation.specs.Places.{starts}
 use Rattle.machine.specs.Turn.{startMachine}
 use Rattle.machine.specs.Events.{events, badScript, badEvents}
@@ -18,7 +18,7 @@ use Rattle.bench.specs.Following.{lineActs}
 
 -- Turn 6, Text 9: the places of the text's own run, one for each turn: how many cell lines stand before the line that the turn takes.
 unfoldable pub linesVisits : List Line → List ℕ → ℕ → List ℕ
-linesVisits text script budget = visitsFrom (lineActs text) (count makesCell text) budget 0 (events script) (startMachine (starts text))
+linesVisits text script budget = visitsFrom (lineActs text) (howMany makesCell text) budget 0 (events script) (startMachine (starts text))
 
 unfoldable pub textVisits : List ℕ → List ℕ → ℕ → List ℕ
 textVisits text script budget = linesVisits (said text) script budget

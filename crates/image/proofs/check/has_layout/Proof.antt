@@ -5,7 +5,7 @@ use Prim.Native.Nat.{ℕ, _≤_, _-_}
 use native.Mathlib.Omega.{arith}
 use borrow.Author.Needs.{needs}
 use lib.ListN.{drop}
-use Rattle.numbers.specs.Tests.{any}
+use Rattle.numbers.specs.Tests.{anyOf}
 use Rattle.image.specs.declared.check.Layout.{Layout}
 use Rattle.image.specs.Code.{fitsOf, useOf}
 use Rattle.image.specs.Check.{layouts}
@@ -14,7 +14,7 @@ use Rattle.image.proofs.check.has_layout.Statement.{statement}
 use Rattle.image.proofs.check.has_layout.Tie as tie
 
 abbrev Inv-loop : tie.InvT-loop
-Inv-loop s f variables table i₀ i = (i ≤ 17) × (any (λ (u : Layout). fitsOf s variables f (useOf u)) (drop i table) ≡ any (fitsOf s variables f) layouts)
+Inv-loop s f variables table i₀ i = (i ≤ 17) × (anyOf (λ (u : Layout). fitsOf s variables f (useOf u)) (drop i table) ≡ anyOf (fitsOf s variables f) layouts)
 
 abbrev μ-loop : tie.MeasureT-loop
 μ-loop s f variables table i₀ i = 17 - i
@@ -23,7 +23,7 @@ variable-count-requires : tie.Need-variable-count-requires Inv-loop μ-loop
 variable-count-requires c κs = search needs
 
 loop-holds : tie.Need-loop-holds Inv-loop μ-loop
-unfolding any layouts
+unfolding anyOf layouts
 loop-holds c = (omega arith, refl)
 
 mul-fits : tie.Need-mul-fits Inv-loop μ-loop
@@ -36,7 +36,7 @@ fits-requires : tie.Need-fits-requires Inv-loop μ-loop
 fits-requires c κs = search needs
 
 returns : tie.Need-returns Inv-loop μ-loop
-returns c = at-one _ _ (c .before .before .before .before .loop .i) _ (c .before .before .before .loop-test .taken) (c .before .fits2 .ensures) (c .if1 .taken) ∙ c .before .before .before .before .loop .inv .1 ∙ ap (λ (v : ℕ). any (fitsOf (c .before .before .before .before .before .before .before .args .s .now) v (c .before .before .before .before .before .before .before .args .f)) layouts) (c .before .before .before .before .before .variable-count .ensures)
+returns c = at-one _ _ (c .before .before .before .before .loop .i) _ (c .before .before .before .loop-test .taken) (c .before .fits2 .ensures) (c .if1 .taken) ∙ c .before .before .before .before .loop .inv .1 ∙ ap (λ (v : ℕ). anyOf (fitsOf (c .before .before .before .before .before .before .before .args .s .now) v (c .before .before .before .before .before .before .before .args .f)) layouts) (c .before .before .before .before .before .variable-count .ensures)
 
 add-i : tie.Need-add-i Inv-loop μ-loop
 add-i c = omega arith
@@ -48,10 +48,10 @@ loop-again : tie.Need-loop-again Inv-loop μ-loop
 loop-again c = (omega arith, past-one _ _ (c .before .before .before .before .loop .i) _ (c .before .before .before .loop-test .taken) (c .before .fits2 .ensures) (c .if1 .left) ∙ c .before .before .before .before .loop .inv .1)
 
 returns-2 : tie.Need-returns-2 Inv-loop μ-loop
-unfolding any
+unfolding anyOf
 returns-2 c =
     let e : c .before .loop .i ≡ 17 = omega arith in
-    (rw e at (c .before .loop .inv .1)) ∙ ap (λ (v : ℕ). any (fitsOf (c .before .before .before .before .args .s .now) v (c .before .before .before .before .args .f)) layouts) (c .before .before .variable-count .ensures)
+    (rw e at (c .before .loop .inv .1)) ∙ ap (λ (v : ℕ). anyOf (fitsOf (c .before .before .before .before .args .s .now) v (c .before .before .before .before .args .f)) layouts) (c .before .before .variable-count .ensures)
 
 pub has-layout-spec : {M : Type 1} → statement M
 has-layout-spec =

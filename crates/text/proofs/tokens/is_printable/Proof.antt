@@ -7,14 +7,14 @@ use lib.ListN.{length, drop}
 use mathlib.Core.Path.{_≡_, refl, sym, _∙_}
 use native.Mathlib.Omega.{arith}
 use borrow.Author.Tests.{not-true, not-false}
-use Rattle.numbers.specs.Tests.{all}
+use Rattle.numbers.specs.Tests.{allOf}
 use Rattle.text.specs.Tokens.{printable}
 use Rattle.text.proofs.Scanning.{printable-more, printable-stop, printable-end}
 use Rattle.text.proofs.tokens.is_printable.Statement.{statement}
 use Rattle.text.proofs.tokens.is_printable.Tie as tie
 
 abbrev Inv-loop : tie.InvT-loop
-Inv-loop l i₀ i = (i ≤ length l) × (all printable (drop i l) ≡ all printable l)
+Inv-loop l i₀ i = (i ≤ length l) × (allOf printable (drop i l) ≡ allOf printable l)
 
 abbrev μ-loop : tie.MeasureT-loop
 μ-loop l i₀ i = length l - i
