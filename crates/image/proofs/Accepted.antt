@@ -13,8 +13,8 @@ use Rattle.numbers.specs.Tests.{anyOf}
 use Rattle.numbers.proofs.Laws.{signed-digits}
 use Rattle.numbers.proofs.Kit.{within32}
 use Rattle.program.specs.Variables.{inRange, literals, present, readOnly, mostCells, mostLabels, mostVariables}
-use Rattle.program.specs.Cells.{cellOf, jumpOf, operandOf, noTarget}
-use Rattle.program.specs.Statements.{Value, Literal, Variable, Condition, Always, Compare, Statement, Set, SetWith, IC, DC, BR, CL, RT, E, H, Hold, OE, Disarm, MA, MR, SL, PR}
+use Rattle.program.specs.Cells.{cellOf, jumpOf, operandOf, noTarget, operatorNumber, comparisonNumber}
+use Rattle.program.specs.Statements.{Value, Literal, Variable, Operator, Plus, Minus, Times, Divided, BitAnd, BitOr, BitXor, Comparison, Equal, Unequal, Less, AtMost, Greater, AtLeast, Condition, Always, Compare, Statement, Set, SetWith, IC, DC, BR, CL, RT, E, H, Hold, OE, Disarm, MA, MR, SL, PR}
 use Rattle.program.specs.declared.Cell.{Cell}
 use Rattle.program.specs.declared.Operand.the-variants as O
 use Rattle.image.specs.Layout.{shape, operandNumber, cellBytes, imageLength, trailerBytes, variableCount}
@@ -112,16 +112,13 @@ module _ {R : Type 0} (place number : R → ℕ) (s : List ℕ) (variables : ℕ
   unfoldable pub Names : R → Type 0
   Names n = labelled s (place n) ≡ true
 
-  unfoldable pub Chooses : ℕ → ℕ → Type 0
-  Chooses last n = (leb 1 n && leb n last) ≡ true
-
   unfoldable pub Compares : Condition R → Type 0
   Compares Always = Unit {0}
-  Compares (Compare x c y) = Reads x × Chooses 6 c × Reads y
+  Compares (Compare x c y) = Reads x × Reads y
 
   unfoldable pub Acceptable : Statement R → Type 0
   Acceptable (Set v x) = Writes v × Reads x
-  Acceptable (SetWith v x o y) = Writes v × Reads x × Chooses 7 o × Reads y
+  Acceptable (SetWith v x o y) = Writes v × Reads x × Reads y
   Acceptable (IC v) = Writes v
   Acceptable (DC v) = Writes v
   Acceptable (BR n c) = Names n × Compares c
@@ -151,13 +148,24 @@ module _ {R : Type 0} (place number : R → ℕ) (s : List ℕ) (variables : ℕ
   unfolding goodWritten Writes
   written-good v h = h
 
-  operator-good : (n : ℕ) → Chooses 7 n → goodSelector 7 n ≡ true
-  unfolding goodSelector Chooses
-  operator-good n h = h
+  operator-good : (o : Operator) → goodSelector 7 (operatorNumber o) ≡ true
+  unfolding goodSelector operatorNumber
+  operator-good Plus = refl
+  operator-good Minus = refl
+  operator-good Times = refl
+  operator-good Divided = refl
+  operator-good BitAnd = refl
+  operator-good BitOr = refl
+  operator-good BitXor = refl
 
-  comparison-good : (n : ℕ) → Chooses 6 n → goodSelector 6 n ≡ true
-  unfolding goodSelector Chooses
-  comparison-good n h = h
+  comparison-good : (c : Comparison) → goodSelector 6 (comparisonNumber c) ≡ true
+  unfolding goodSelector comparisonNumber
+  comparison-good Equal = refl
+  comparison-good Unequal = refl
+  comparison-good Less = refl
+  comparison-good AtMost = refl
+  comparison-good Greater = refl
+  comparison-good AtLeast = refl
 
   name-good : (o : ℕ) (n : R) → Names n → goodTarget s o true (place n) ≡ true
   unfolding Names
@@ -188,15 +196,15 @@ module _ {R : Type 0} (place number : R → ℕ) (s : List ℕ) (variables : ℕ
   pub statement-fits : (st : Statement R) → Acceptable st → anyOf (fitsCell s variables (cellOf place number st)) layouts ≡ true
   unfolding anyOf layouts fitsCell cellOf jumpOf Acceptable Compares
   statement-fits (Set v x) h = simp (written-good v (h .0), no-selector, operand-good x (h .1), no-operand, no-target 1)
-  statement-fits (SetWith v x o y) h = simp (written-good v (h .0), operator-good o (h .2), operand-good x (h .1), operand-good y (h .3), no-target 2)
+  statement-fits (SetWith v x o y) h = simp (written-good v (h .0), operator-good o, operand-good x (h .1), operand-good y (h .2), no-target 2)
   statement-fits (IC v) h = simp (written-good v h, no-selector, no-operand, no-target 3)
   statement-fits (DC v) h = simp (written-good v h, no-selector, no-operand, no-target 4)
   statement-fits (BR n Always) h = simp (no-written, no-selector, no-operand, name-good 5 n (h .0))
   statement-fits (BR n (Compare x c y)) h =
-      simp (no-written, comparison-good c (h .1 .1), operand-good x (h .1 .0), operand-good y (h .1 .2), name-good 5 n (h .0), or-true)
+      simp (no-written, comparison-good c, operand-good x (h .1 .0), operand-good y (h .1 .1), name-good 5 n (h .0), or-true)
   statement-fits (CL n Always) h = simp (no-written, no-selector, no-operand, name-good 6 n (h .0))
   statement-fits (CL n (Compare x c y)) h =
-      simp (no-written, comparison-good c (h .1 .1), operand-good x (h .1 .0), operand-good y (h .1 .2), name-good 6 n (h .0), or-true)
+      simp (no-written, comparison-good c, operand-good x (h .1 .0), operand-good y (h .1 .1), name-good 6 n (h .0), or-true)
   statement-fits RT h = simp (no-written, no-selector, no-operand, no-target 7)
   statement-fits E h = simp (no-written, no-selector, no-operand, no-target 8)
   statement-fits H h = simp (no-written, no-selector, no-operand, no-target 9)

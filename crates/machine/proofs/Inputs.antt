@@ -11,10 +11,11 @@ use lib.IntN.{ℤ, pos}
 use lib.ListN.{length, set}
 use lib.Seq.{sets, set-out, getD-set-same, getD-set-other}
 use Rattle.numbers.specs.Tests.{between, eqZ}
-use Rattle.program.specs.Variables.{range, inRange, rangeOf, literals, startVariables, allInputs}
+use Rattle.program.specs.Variables.{inRange, rangeOf, literals, startVariables, allInputs}
 use Rattle.program.specs.Statements.{Statement}
+use Rattle.program.proofs.Ranges.{input-range}
 use Rattle.effects.specs.declared.Effect.{Effect}
-use Rattle.effects.specs.declared.Effect.the-variants.{Fails, Stores, Passes, Goes, Calls, Returns, Ends, Stays, Holds, Arms, Moves, Slews, Prints}
+use Rattle.effects.specs.declared.Effect.the-variants.{Fails, Stores, Passes, Goes, Calls, Returns, Ends, Stays, Holds, Arms, Disarms, Moves, Slews, Prints}
 use Rattle.effects.specs.Effects.{read, effect}
 use Rattle.effects.proofs.Sound.{Sound, sound}
 use Rattle.machine.specs.declared.Machine.{Machine}
@@ -55,15 +56,9 @@ inputs-below v z b h = inputs-set h v z (λ k l e. absurd (omega arith))
 pub inputs-above : {vars : List ℤ} (v : ℕ) (z : ℤ) → 20 ≤ v → Inputs vars → Inputs (set vars v z)
 inputs-above v z b h = inputs-set h v z (λ k l e. absurd (omega arith))
 
--- The range of an input.
-bit-range : (v : ℕ) (vi vm : ℤ) → 16 ≤ v → v < 20 → rangeOf v vi vm ≡ range (pos 0) (pos 1)
-unfolding rangeOf
-bit-range v vi vm a b =
-    rw (le-ltb v 6 (omega arith), le-ltb v 8 (omega arith), ne-eqb v 8 (λ e. omega arith), ne-eqb v 9 (λ e. omega arith), ne-eqb v 10 (λ e. omega arith), lt-ltb v 20 b)
-
 module _ (vars : List ℤ) (h : Inputs vars) (v : ℕ) (z : ℤ) (r : inRange (rangeOf v (read vars 8) (read vars 9)) z ≡ true) where
   in-bit : (k : ℕ) → k < 4 → v ≡ 16 + k → Bit z
-  in-bit k l e = rw (bit-range v (read vars 8) (read vars 9) (omega arith) (omega arith)) at r
+  in-bit k l e = rw (input-range v (read vars 8) (read vars 9) (omega arith) (omega arith)) at r
 
   stored-by : (t : Bool) → Inputs (cond t (set (set vars v z) 15 (pos 0)) (set vars v z))
   stored-by true = inputs-below 15 (pos 0) (omega arith) (inputs-set h v z in-bit)
@@ -95,6 +90,7 @@ module _ (m : Machine) (h : Inputs (m .variables)) where
   inputs-effect cells Stays s = h
   inputs-effect cells (Holds turns) s = rw (held-variables turns (ltb 0 turns) refl) h
   inputs-effect cells (Arms cell) s = h
+  inputs-effect cells Disarms s = h
   inputs-effect cells (Moves target kind z) s = inputs-moving (To target)
   inputs-effect cells (Slews z) s = inputs-moving (slew z)
   inputs-effect cells (Prints v z) s = h

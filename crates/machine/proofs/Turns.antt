@@ -9,15 +9,15 @@ use borrow.Author.Tests.{ne-eqb, leb-true}
 use lib.Dec.{eqb, leb, ltb}
 use lib.IntN.{ℤ, pos}
 use lib.ListN.{length, set}
-use lib.Seq.{set-out, getD-set-other}
-use Rattle.program.specs.Cells.{same, noTarget}
+use lib.Seq.{set-out}
+use Rattle.program.specs.Cells.{same}
 use Rattle.program.specs.Statements.{Statement}
 use Rattle.effects.specs.declared.Effect.{Effect}
-use Rattle.effects.specs.Effects.{read, effect}
+use Rattle.effects.specs.Effects.{effect}
 use Rattle.effects.proofs.Sound.{Sound, sound}
 use Rattle.machine.specs.declared.Machine.{Machine}
 use Rattle.machine.specs.declared.Turned.{Turned}
-use Rattle.machine.specs.Turn.{stored, called, flagged, failed, turn}
+use Rattle.machine.specs.Turn.{noHandler, stored, called, flagged, failed, turn}
 
 -- A store past the last variable changes nothing.
 pub stored-out : (vars : List ℤ) (v : ℕ) (z : ℤ) → length vars ≡ 64 → 64 ≤ v → vars ≡ stored vars v z
@@ -38,15 +38,11 @@ module _ (m : Machine) (s : Statement ℕ) {does e : Effect} (p : does ≡ effec
 
 -- Turn 23: an error changes ER and EF, and no other variable.
 module _ (m : Machine) (error : ℕ) where
-  failed-by : (t u : Bool) → eqb (m .handler) noTarget ≡ t → ltb (m .kept) 8 ≡ u → failed error m .machine .variables ≡ set (set (m .variables) 10 (pos error)) 15 (pos 1)
+  failed-by : (t u : Bool) → eqb (m .handler) noHandler ≡ t → ltb (m .kept) 8 ≡ u → failed error m .machine .variables ≡ set (set (m .variables) 10 (pos error)) 15 (pos 1)
   unfolding failed called flagged
   failed-by true u e f = rw e
   failed-by false true e f = rw (e, f)
   failed-by false false e f = rw (e, f)
 
   pub failed-variables : failed error m .machine .variables ≡ set (set (m .variables) 10 (pos error)) 15 (pos 1)
-  failed-variables = failed-by (eqb (m .handler) noTarget) (ltb (m .kept) 8) refl refl
-
-  pub failed-leaves : (v : ℕ) → (v ≡ 10 → ⊥) → (v ≡ 15 → ⊥) → read (failed error m .machine .variables) v ≡ read (m .variables) v
-  unfolding read
-  failed-leaves v a b = rw failed-variables (getD-set-other (set (m .variables) 10 (pos error)) 15 v (pos 1) (pos 0) b ∙ getD-set-other (m .variables) 10 v (pos error) (pos 0) a)
+  failed-variables = failed-by (eqb (m .handler) noHandler) (ltb (m .kept) 8) refl refl

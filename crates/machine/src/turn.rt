@@ -98,6 +98,9 @@ impl Machine {
     // The numbers of variables are below this.
     pub const VARIABLES: u32 = 64;
 
+    // The handler of a machine that has none: no cell has this number.
+    pub const NO_HANDLER: u16 = 65535;
+
     // The motion changes, and MV with it.
     pub fn in_motion(self, motion: Motion) -> Machine
         ensures { λ r. ⌜ r ≡ inMotion motion self ⌝ }
@@ -220,12 +223,12 @@ impl Machine {
             value: error as i32,
         };
         let flagged = self.flagged(error);
-        if self.handler == Cell::NO_HANDLER {
+        if self.handler == Machine::NO_HANDLER {
             return flagged.onward(wrote);
         }
         if self.kept < Places::MOST {
             return Turned {
-                machine: flagged.with_handler(Cell::NO_HANDLER).called(self.handler),
+                machine: flagged.with_handler(Machine::NO_HANDLER).called(self.handler),
                 wrote: wrote,
                 stops: false,
             };
@@ -269,6 +272,9 @@ impl Machine {
             Effect::Stays => self.here(),
             Effect::Holds(turns) => self.held(turns).here(),
             Effect::Arms(handler) => self.with_handler(handler).onward(Record::nothing()),
+            Effect::Disarms => self
+                .with_handler(Machine::NO_HANDLER)
+                .onward(Record::nothing()),
             Effect::Moves {
                 target,
                 kind,

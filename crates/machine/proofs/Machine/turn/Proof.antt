@@ -4,7 +4,7 @@ use mathlib.Core.Path.{_≡_}
 use borrow.Author.Needs.{needs}
 use mir.Val.{toZ, ofZ}
 use mir.Syntax.{w32}
-use Rattle.machine.specs.Turn.{turn}
+use Rattle.machine.specs.Turn.{noHandler, turn}
 use Rattle.machine.proofs.Turns.{turn-by, sound-by}
 use Rattle.machine.proofs.Machine.turn.Statement.{statement}
 use Rattle.machine.proofs.Machine.turn.Tie as tie
@@ -96,6 +96,18 @@ nothing-requires-2 c κs = search needs
 onward-requires-3 : tie.Need-onward-requires-3
 onward-requires-3 c κs = rw (c .before .with-handler .ensures) (c .before .before .before .before .before .before .before .before .before .pre)
 
+enum-told-5 : tie.Need-enum-told-5
+enum-told-5 c = search needs
+
+with-handler-requires-2 : tie.Need-with-handler-requires-2
+with-handler-requires-2 c κs = search needs
+
+nothing-requires-3 : tie.Need-nothing-requires-3
+nothing-requires-3 c κs = search needs
+
+onward-requires-4 : tie.Need-onward-requires-4
+onward-requires-4 c κs = rw (c .before .with-handler2 .ensures) (c .before .before .before .before .before .before .before .before .pre)
+
 enum-known-does-7 : tie.Need-enum-known-does-7
 enum-known-does-7 c = search needs
 
@@ -114,8 +126,8 @@ moved-requires-2 c κs = search needs
 enum-known-does-9 : tie.Need-enum-known-does-9
 enum-known-does-9 c = search needs
 
-onward-requires-4 : tie.Need-onward-requires-4
-onward-requires-4 c κs = search needs
+onward-requires-5 : tie.Need-onward-requires-5
+onward-requires-5 c κs = search needs
 
 returns : tie.Need-returns
 unfolding turn
@@ -171,27 +183,32 @@ returns-10 c =
     turn-by _ _ (c .before .before .before .before .before .before .effect .ensures) (c .before .before .before .before .does6 .given .1) _ (simp (c .before .before .with-handler .ensures, c .before .nothing2 .ensures) at (c .onward3 .ensures))
 
 returns-11 : tie.Need-returns-11
-unfolding turn
+unfolding turn noHandler
 returns-11 c =
+    turn-by _ _ (c .before .before .before .before .before .effect .ensures) (c .before .before .before .enum-told5 .given .1) _ (simp (c .before .before .with-handler2 .ensures, c .before .nothing3 .ensures) at (c .onward4 .ensures))
+
+returns-12 : tie.Need-returns-12
+unfolding turn
+returns-12 c =
     let x = c .before .before .does7 .given .0 .0 in
     let x′ : toZ w32 (ofZ w32 x) ≡ x = search needs in
     let z = c .before .before .does7 .given .0 .1 .1 .0 in
     let z′ : toZ w32 (ofZ w32 z) ≡ z = search needs in
     turn-by _ _ (c .before .before .before .before .effect .ensures) (c .before .before .does7 .given .1) _ (simp (x′, z′) at (c .moved .ensures))
 
-returns-12 : tie.Need-returns-12
+returns-13 : tie.Need-returns-13
 unfolding turn
-returns-12 c =
+returns-13 c =
     let z = c .before .before .before .does8 .given .0 .0 in
     let z′ : toZ w32 (ofZ w32 z) ≡ z = search needs in
     turn-by _ _ (c .before .before .before .before .before .effect .ensures) (c .before .before .before .does8 .given .1) _ (simp (c .before .slew .ensures, z′) at (c .moved2 .ensures))
 
-returns-13 : tie.Need-returns-13
+returns-14 : tie.Need-returns-14
 unfolding turn
-returns-13 c =
+returns-14 c =
     let z = c .before .before .does9 .given .0 .1 .0 in
     let z′ : toZ w32 (ofZ w32 z) ≡ z = search needs in
-    turn-by _ _ (c .before .before .before .before .effect .ensures) (c .before .before .does9 .given .1) _ (simp z′ at (c .onward4 .ensures))
+    turn-by _ _ (c .before .before .before .before .effect .ensures) (c .before .before .does9 .given .1) _ (simp z′ at (c .onward5 .ensures))
 
 pub turn-spec : {M : Type 1} → statement M
 turn-spec =
@@ -226,13 +243,17 @@ turn-spec =
     with-handler-requires
     nothing-requires-2
     onward-requires-3
+    enum-told-5
+    with-handler-requires-2
+    nothing-requires-3
+    onward-requires-4
     enum-known-does-7
     moved-requires
     enum-known-does-8
     slew-requires
     moved-requires-2
     enum-known-does-9
-    onward-requires-4
+    onward-requires-5
     returns
     returns-2
     returns-3
@@ -245,4 +266,5 @@ turn-spec =
     returns-10
     returns-11
     returns-12
-    returns-13)
+    returns-13
+    returns-14)
