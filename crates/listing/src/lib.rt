@@ -12,7 +12,7 @@ pub fn variable_key(image: &[u8], number: u8) -> u16
     ensures { λ r. ⌜ r ≡ key (variableName (now (image .entry)) number) ⌝ }
 {
     if number < FIRST_USER {
-        return program::names::variable_key(number);
+        return Variable(number as u32).key();
     }
     let cells = image::cell_count(image);
     let labels = image::label_count(image);

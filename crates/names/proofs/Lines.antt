@@ -42,8 +42,8 @@ pub said-all : (s : List ℕ) (at : ℕ) → length s ≤ at → said (take at s
 said-all s at h = ap said (take-all at s h)
 
 -- A text has no more lines than bytes.
-few-before : (b n : ℕ) (ls : List (List ℕ)) → length ls ≤ n → length (Paper.before b ls) ≤ suc n
-unfolding Paper.before
+few-before : (b n : ℕ) (ls : List (List ℕ)) → length ls ≤ n → length (Paper.ontoFirstLine b ls) ≤ suc n
+unfolding Paper.ontoFirstLine
 few-before b n [] h = omega arith
 few-before b n (l ∷ ls) h = omega arith
 
@@ -52,7 +52,7 @@ unfolding lines
 few-lines [] = omega arith
 few-lines (b ∷ bs) = pick (eqb b 10) (eqb b 13 && eqb (getD bs 0 0) 10) (few-lines bs)
   where
-    pick : (x y : Bool) → length (lines bs) ≤ length bs → length (cond x ([] ∷ lines bs) (cond y (lines bs) (Paper.before b (lines bs)))) ≤ suc (length bs)
+    pick : (x y : Bool) → length (lines bs) ≤ length bs → length (cond x ([] ∷ lines bs) (cond y (lines bs) (Paper.ontoFirstLine b (lines bs)))) ≤ suc (length bs)
     pick true y h = omega arith
     pick false true h = omega arith
     pick false false h = few-before b (length bs) (lines bs) h

@@ -18,7 +18,7 @@ use Rattle.program.specs.Code.{key}
 use Rattle.program.specs.Statements.{Statement}
 use Rattle.program.proofs.Keys.{both, eqList-eq, IsWord, single, double}
 use Rattle.text.specs.Forms as Form
-use Rattle.text.specs.Forms.{Line, Blank, Label, Declared, Acts, variableName, Parts, noParts, named, Slot, Is, New, Written, Start, takesWord, takesFirst, takes, fill, form, forms, byForm, statement, reading}
+use Rattle.text.specs.Forms.{Line, Blank, Label, Declared, Acts, variableName, Parts, noParts, naming, Slot, Is, New, Written, Start, put, word, takes, fill, form, forms, byForm, statement, reading}
 use Rattle.text.specs.Faults.{longLine, badForm, bigLiteral, reservedName, bigIn, declares, heard}
 use Rattle.text.specs.Code.{saidBy, readingOf}
 use Rattle.text.proofs.Words.{variable-word}
@@ -175,19 +175,19 @@ holds-map K L f (some q) h = f q h
 
 module _ (ss : List Slot) (t : Token) (ts : List Token) (p : Parts) where
   first-is : (w : Name) → HoldsAt (λ q. T (eqList (t .chars) w)) (fill (Is w ∷ ss) (t ∷ ts) p)
-  unfolding fill takes takesFirst takesWord
+  unfolding fill takes put word
   first-is w = pick (eqList (t .chars) w)
     where
-      pick : (b : Bool) → HoldsAt (λ q. T b) (goOn ss (cond b (Form.take p ts) none))
+      pick : (b : Bool) → HoldsAt (λ q. T b) (goOn ss (Form.put (λ (w : Name). p) (cond b (Form.took (t .chars) ts) none)))
       pick true = anything (fill ss ts p)
       pick false = tt
 
   first-written : HoldsAt (λ q. T (variableName (t .chars))) (fill (Written ∷ ss) (t ∷ ts) p)
-  unfolding fill takes takesFirst takesWord
+  unfolding fill takes put word
   first-written = pick (variableName (t .chars))
     where
-      pick : (b : Bool) → HoldsAt (λ q. T b) (goOn ss (cond b (Form.take (Form.writing (t .chars) p) ts) none))
-      pick true = anything (fill ss ts (Form.writing (t .chars) p))
+      pick : (b : Bool) → HoldsAt (λ q. T b) (goOn ss (Form.put (Form.writing p) (cond b (Form.took (t .chars) ts) none)))
+      pick true = anything (fill ss ts (Form.writing p (t .chars)))
       pick false = tt
 
 -- A form's tokens begin as they should.
@@ -207,20 +207,20 @@ acts-written ss says t ts =
 -- The forms that declare: the name is the second word.
 module _ (says : Parts → Line) (ss : List Slot) (t : Token) where
   named-second : (w : Name) (ts : List Token)
-      → ((u : Token) (us : List Token) → t .chars ≡ w → T (twoCharacters (u .chars)) → HoldsAt (λ p. Opening (says p) (t ∷ u ∷ us)) (fill ss us (named (u .chars) noParts)))
+      → ((u : Token) (us : List Token) → t .chars ≡ w → T (twoCharacters (u .chars)) → HoldsAt (λ p. Opening (says p) (t ∷ u ∷ us)) (fill ss us (naming noParts (u .chars))))
       → HoldsAt (λ p. Opening (says p) (t ∷ ts)) (fill (Is w ∷ New ∷ ss) (t ∷ ts) noParts)
-  unfolding fill takes takesFirst takesWord
+  unfolding fill takes put word
   named-second w ts f = pick (eqList (t .chars) w) refl
     where
       then : (us : List Token) → t .chars ≡ w → HoldsAt (λ p. Opening (says p) (t ∷ us)) (fill (New ∷ ss) us noParts)
       then [] e = tt
       then (u ∷ us) e = last (twoCharacters (u .chars)) refl
         where
-          last : (b : Bool) → twoCharacters (u .chars) ≡ b → HoldsAt (λ p. Opening (says p) (t ∷ u ∷ us)) (goOn ss (cond b (Form.take (named (u .chars) noParts) us) none))
+          last : (b : Bool) → twoCharacters (u .chars) ≡ b → HoldsAt (λ p. Opening (says p) (t ∷ u ∷ us)) (goOn ss (Form.put (naming noParts) (cond b (Form.took (u .chars) us) none)))
           last true g = f u us e (subst T (sym g) tt)
           last false g = tt
 
-      pick : (b : Bool) → eqList (t .chars) w ≡ b → HoldsAt (λ p. Opening (says p) (t ∷ ts)) (goOn (New ∷ ss) (cond b (Form.take noParts ts) none))
+      pick : (b : Bool) → eqList (t .chars) w ≡ b → HoldsAt (λ p. Opening (says p) (t ∷ ts)) (goOn (New ∷ ss) (Form.put (λ (w : Name). noParts) (cond b (Form.took (t .chars) ts) none)))
       pick true g = then ts (eqList-eq (t .chars) w (subst T (sym g) tt))
       pick false g = tt
 
@@ -235,25 +235,25 @@ fits-LB : Fits (form (Is (ascii "LB") ∷ New ∷ []) (λ p. Label (p .name)))
 fits-LB t ts =
     named-second (λ p. Label (p .name)) [] t (ascii "LB") ts
     (λ u us e h.
-    holds-map (Filled [] (named (u .chars) noParts)) (λ q. Opening (Label (q .name)) (t ∷ u ∷ us))
+    holds-map (Filled [] (naming noParts (u .chars))) (λ q. Opening (Label (q .name)) (t ∷ u ∷ us))
     (λ q g. subst (λ (w : Name). Opening (Label w) (t ∷ u ∷ us)) (sym (name-kept g)) (label e h))
-    (fill [] us (named (u .chars) noParts)) (filled [] us (named (u .chars) noParts)))
+    (fill [] us (naming noParts (u .chars))) (filled [] us (naming noParts (u .chars))))
 
 fits-VA : Fits (form (Is (ascii "VA") ∷ New ∷ []) (λ p. Declared (p .name) (pos 0)))
 fits-VA t ts =
     named-second (λ p. Declared (p .name) (pos 0)) [] t (ascii "VA") ts
     (λ u us e h.
-    holds-map (Filled [] (named (u .chars) noParts)) (λ q. Opening (Declared (q .name) (pos 0)) (t ∷ u ∷ us))
+    holds-map (Filled [] (naming noParts (u .chars))) (λ q. Opening (Declared (q .name) (pos 0)) (t ∷ u ∷ us))
     (λ q g. subst (λ (w : Name). Opening (Declared w (pos 0)) (t ∷ u ∷ us)) (sym (name-kept g)) (declared e h))
-    (fill [] us (named (u .chars) noParts)) (filled [] us (named (u .chars) noParts)))
+    (fill [] us (naming noParts (u .chars))) (filled [] us (naming noParts (u .chars))))
 
 fits-VA-start : Fits (form (Is (ascii "VA") ∷ New ∷ Is (ascii "=") ∷ Start ∷ []) (λ p. Declared (p .name) (p .start)))
 fits-VA-start t ts =
     named-second (λ p. Declared (p .name) (p .start)) (Is (ascii "=") ∷ Start ∷ []) t (ascii "VA") ts
     (λ u us e h.
-    holds-map (Filled (Is (ascii "=") ∷ Start ∷ []) (named (u .chars) noParts)) (λ q. Opening (Declared (q .name) (q .start)) (t ∷ u ∷ us))
+    holds-map (Filled (Is (ascii "=") ∷ Start ∷ []) (naming noParts (u .chars))) (λ q. Opening (Declared (q .name) (q .start)) (t ∷ u ∷ us))
     (λ q g. subst (λ (w : Name). Opening (Declared w (q .start)) (t ∷ u ∷ us)) (sym (name-kept-start g)) (declared e h))
-    (fill (Is (ascii "=") ∷ Start ∷ []) us (named (u .chars) noParts)) (filled (Is (ascii "=") ∷ Start ∷ []) us (named (u .chars) noParts)))
+    (fill (Is (ascii "=") ∷ Start ∷ []) us (naming noParts (u .chars))) (filled (Is (ascii "=") ∷ Start ∷ []) us (naming noParts (u .chars))))
 
 data AllFit : List Form.Form → Type 0 where
   last : AllFit []

@@ -122,7 +122,7 @@ pub fn find(s: &[u8], key: u16) -> Found
 fn is_unknown_variable(s: &[u8], key: u16) -> bool
     ensures { λ r. ⌜ r ≡ unknownVariable (said (now (s .entry))) (nameOf key) ⌝ }
 {
-    if program::names::variable_number(key) != 0 {
+    if Variable::number_of(key) != 0 {
         return false;
     }
     declared_as(s, key) != Reading::DECLARED
@@ -175,7 +175,7 @@ fn is_undeclared(s: &[u8], cell: Cell) -> bool
 fn writes_read_only(key: u16) -> bool
     ensures { λ r. ⌜ r ≡ readOnlyKey key ⌝ }
 {
-    let number = program::names::variable_number(key);
+    let number = Variable::number_of(key);
     (key != NO_NAME) & Variable(number).is_read_only()
 }
 

@@ -9,7 +9,7 @@ use native.Mathlib.Omega.{arith}
 use borrow.Author.Tests.{ltb-true, ltb-false}
 use lib.Dec.{ltb}
 use lib.ListN.{length, getD}
-use Rattle.numbers.specs.Tests.{lowest, firstBelow, anyBelow}
+use Rattle.numbers.specs.Tests.{lowest, firstBelow, anyBelow, Lowest, NoRow}
 
 -- What is given is 0, or the number of one of the tests.
 pub lowest-range : (n : ℕ) (bs : List Bool) → (lowest (suc n) bs ≡ 0) ⊎ ((suc n ≤ lowest (suc n) bs) × (lowest (suc n) bs ≤ n + length bs))
@@ -48,7 +48,7 @@ lowest-found n (false ∷ bs) (suc k) h f = let e = lowest-found (suc n) bs k h 
 
 -- A number is given exactly if its test holds and no test before it does.
 pub lowest-exactly : (n : ℕ) (bs : List Bool) (k : ℕ)
-    → (lowest (suc n) bs ≡ suc n + k) ↔ ((getD bs k false ≡ true) × ((j : ℕ) → j < k → getD bs j false ≡ false))
+    → (lowest (suc n) bs ≡ suc n + k) ↔ Lowest bs k
 lowest-exactly n bs k = (λ e. (lowest-holds n bs k e, λ j h. lowest-below n bs k j e h), λ h. lowest-found n bs k (h .0) (h .1))
 
 lowest-none : (n : ℕ) (bs : List Bool) (k : ℕ) → lowest (suc n) bs ≡ 0 → getD bs k false ≡ false
@@ -65,7 +65,7 @@ none-lowest n (true ∷ bs) f = absurd (true≢false (f 0))
 none-lowest n (false ∷ bs) f = none-lowest (suc n) bs (λ k. f (suc k))
 
 -- 0 is given exactly if no test holds.
-pub lowest-zero : (n : ℕ) (bs : List Bool) → (lowest (suc n) bs ≡ 0) ↔ ((k : ℕ) → getD bs k false ≡ false)
+pub lowest-zero : (n : ℕ) (bs : List Bool) → (lowest (suc n) bs ≡ 0) ↔ NoRow bs
 lowest-zero n bs = (λ e k. lowest-none n bs k e, none-lowest n bs)
 
 -- The first index that passes: at most n; it passes where it is below n; none before it passes.

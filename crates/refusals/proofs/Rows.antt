@@ -1,16 +1,16 @@
 -- Document 01, Refusals 2 to 9: each fault number is the row of the table that it names, and a line has no other.
 -- Assumes nothing.
-use mathlib.Core.Path.{_≡_, refl, sym, _∙_}
-use mathlib.Core.Bool.{Bool, true, false, _&&_, false≢true}
-use mathlib.Core.List.{List, []}
-use Prim.Native.Nat.{ℕ, _-_, _≤_, _<_}
+use mathlib.Core.Path.{_≡_, refl, sym, ap, _∙_}
+use mathlib.Core.Bool.{Bool, true, false, false≢true}
+use mathlib.Core.List.{List, [], _∷_, _++_, map, append-assoc, append-nil}
+use Prim.Native.Nat.{ℕ, zero, suc, _-_, _≤_, _<_}
 use native.Mathlib.Omega.{arith}
-use borrow.Author.Tests.{leb-true, leb-false, le-leb}
+use borrow.Author.Tests.{leb-true, leb-false}
 use lib.Dec.{leb}
 use lib.ListN.{length, take, getD, List·getD-eq-default}
 use Rattle.text.specs.Lines.{lines}
 use Rattle.text.specs.Forms.{Line}
-use Rattle.text.specs.Faults.{longLine, badForm, bigLiteral, reservedName, heard, repeated, tooMany, undeclared, readOnlyWritten, faults, said, hasFault}
+use Rattle.text.specs.Faults.{longLine, badForm, bigLiteral, reservedName, heard, repeated, tooMany, undeclared, readOnlyWritten, faults, faultsFrom, said, textFaults, faultsOf}
 
 -- Line l of a text, from 1, and what the lines before it say.
 abbrev pub lineAt : List ℕ → ℕ → List ℕ
@@ -19,60 +19,74 @@ lineAt text l = getD (lines text) (l - 1) []
 abbrev pub saidBefore : List ℕ → ℕ → List Line
 saidBefore text l = take (l - 1) (said text)
 
--- The rows 2 to 9 for line l of a text.
-abbrev pub rowsAt : List ℕ → ℕ → List Bool
-rowsAt text l = faults (said text) (saidBefore text l) (lineAt text l)
+-- Each line has its rows, behind the lines before it.
+module _ (text : List Line) where
+  faults-at : (before : List Line) (ls : List (List ℕ)) (i : ℕ) → i < length ls
+      → getD (faultsFrom text before ls) i [] ≡ faults text (before ++ take i (map heard ls)) (getD ls i [])
+  unfolding faultsFrom
+  faults-at before [] i h = absurd (omega arith)
+  faults-at before (l ∷ ls) zero h = rw (append-nil before)
+  faults-at before (l ∷ ls) (suc i) h =
+      faults-at (before ++ (heard l ∷ [])) ls i (omega arith) ∙ rw (append-assoc before (heard l ∷ []) (take i (map heard ls)))
+
+  faults-length : (before : List Line) (ls : List (List ℕ)) → length (faultsFrom text before ls) ≡ length ls
+  unfolding faultsFrom
+  faults-length before [] = refl
+  faults-length before (l ∷ ls) = ap suc (faults-length (before ++ (heard l ∷ [])) ls)
+
+pub rows-at : (text : List ℕ) (l : ℕ) → 1 ≤ l → l ≤ length (lines text) → faultsOf text l ≡ faults (said text) (saidBefore text l) (lineAt text l)
+unfolding faultsOf textFaults said
+rows-at text zero low high = absurd (omega arith)
+rows-at text (suc i) low high = let e : suc i - 1 ≡ i = omega arith in rw e (faults-at (said text) [] (lines text) i high)
+
+-- Line l has fault n.
+abbrev pub has : List ℕ → ℕ → ℕ → Bool
+has text n l = getD (faultsOf text l) (n - 2) false
 
 module _ (text : List ℕ) (l : ℕ) (low : 1 ≤ l) (high : l ≤ length (lines text)) where
   -- Fault n is row n.
-  pub row : (n : ℕ) → 2 ≤ n → hasFault n l text ≡ getD (rowsAt text l) (n - 2) false
-  unfolding hasFault
-  row n h = rw (le-leb 2 n h, le-leb 1 l low, le-leb l (length (lines text)) high)
+  pub row : (n : ℕ) → has text n l ≡ getD (faults (said text) (saidBefore text l) (lineAt text l)) (n - 2) false
+  row n = ap (λ (rows : List Bool). getD rows (n - 2) false) (rows-at text l low high)
 
-  -- No. 2: line over 64 bytes.
-  pub row-2 : hasFault 2 l text ≡ longLine (lineAt text l)
+  -- No. 2: the line is too long.
+  pub row-2 : has text 2 l ≡ longLine (lineAt text l)
   unfolding faults
-  row-2 = row 2 (omega arith)
+  row-2 = row 2
 
-  -- No. 3: bad byte or form.
-  pub row-3 : hasFault 3 l text ≡ badForm (lineAt text l)
+  -- No. 3: a byte or a form that no line may have.
+  pub row-3 : has text 3 l ≡ badForm (lineAt text l)
   unfolding faults
-  row-3 = row 3 (omega arith)
+  row-3 = row 3
 
-  -- No. 4: literal outside its range.
-  pub row-4 : hasFault 4 l text ≡ bigLiteral (lineAt text l)
+  -- No. 4: a literal that is too big or too small.
+  pub row-4 : has text 4 l ≡ bigLiteral (lineAt text l)
   unfolding faults
-  row-4 = row 4 (omega arith)
+  row-4 = row 4
 
-  -- No. 5: LB or VA of a reserved name.
-  pub row-5 : hasFault 5 l text ≡ reservedName (lineAt text l)
+  -- No. 5: a reserved name is declared.
+  pub row-5 : has text 5 l ≡ reservedName (lineAt text l)
   unfolding faults
-  row-5 = row 5 (omega arith)
+  row-5 = row 5
 
-  -- No. 6: name declared before.
-  pub row-6 : hasFault 6 l text ≡ repeated (saidBefore text l) (heard (lineAt text l))
+  -- No. 6: a name is declared again.
+  pub row-6 : has text 6 l ≡ repeated (saidBefore text l) (heard (lineAt text l))
   unfolding faults
-  row-6 = row 6 (omega arith)
+  row-6 = row 6
 
-  -- No. 7: a cell, label or variable too many.
-  pub row-7 : hasFault 7 l text ≡ tooMany (saidBefore text l) (heard (lineAt text l))
+  -- No. 7: one more than there may be.
+  pub row-7 : has text 7 l ≡ tooMany (saidBefore text l) (heard (lineAt text l))
   unfolding faults
-  row-7 = row 7 (omega arith)
+  row-7 = row 7
 
-  -- No. 8: name not declared, or first declared as the other kind.
-  pub row-8 : hasFault 8 l text ≡ undeclared (said text) (heard (lineAt text l))
+  -- No. 8: a name has no declaration, or its first is of another kind.
+  pub row-8 : has text 8 l ≡ undeclared (said text) (heard (lineAt text l))
   unfolding faults
-  row-8 = row 8 (omega arith)
+  row-8 = row 8
 
-  -- No. 9: read-only variable written.
-  pub row-9 : hasFault 9 l text ≡ readOnlyWritten (heard (lineAt text l))
+  -- No. 9: what may only be read is written.
+  pub row-9 : has text 9 l ≡ readOnlyWritten (heard (lineAt text l))
   unfolding faults
-  row-9 = row 9 (omega arith)
-
--- Two tests, of which both hold.
-both-true : (x y : Bool) → (x && y) ≡ true → (x ≡ true) × (y ≡ true)
-both-true true y e = (refl, e)
-both-true false y e = absurd (false≢true e)
+  row-9 = row 9
 
 -- A test that holds stands in the list.
 held-below : (bs : List Bool) (k : ℕ) → getD bs k false ≡ true → k < length bs
@@ -81,15 +95,20 @@ held-below bs k e = go (leb (length bs) k) refl where
   go true i = absurd (false≢true (sym (List·getD-eq-default bs false (leb-true (length bs) k i)) ∙ e))
   go false i = leb-false (length bs) k i
 
--- A number of the table, and a line of the text.
+-- A row of the table, from 0, and a line of the text.
 abbrev pub Possible : List ℕ → ℕ → ℕ → Type 0
-Possible text n l = (2 ≤ n) × (n ≤ 9) × (1 ≤ l) × (l ≤ length (lines text))
+Possible text k l = (k < 8) × (1 ≤ l) × (l ≤ length (lines text))
 
--- Each fault has such a number and line.
-pub fault-range : (text : List ℕ) (n l : ℕ) → hasFault n l text ≡ true → Possible text n l
-unfolding hasFault faults
-fault-range text n l e =
-    let a = both-true (leb 2 n) _ e in
-    let b = both-true (leb 1 l) _ (a .1) in
-    let c = both-true (leb l (length (lines text))) _ (b .1) in
-    omega (arith, leb-true 2 n (a .0), leb-true 1 l (b .0), leb-true l (length (lines text)) (c .0), held-below (rowsAt text l) (n - 2) (c .1))
+-- Each row that holds is of that kind.
+pub fault-range : (text : List ℕ) (k l : ℕ) → getD (faultsOf text l) k false ≡ true → Possible text k l
+unfolding faultsOf textFaults faults
+fault-range text k zero e = absurd (false≢true e)
+fault-range text k (suc i) e = go (leb (length (lines text)) i) refl where
+  go : (t : Bool) → leb (length (lines text)) i ≡ t → Possible text k (suc i)
+  go true h =
+      let none : getD (textFaults text) i [] ≡ [] = List·getD-eq-default (textFaults text) [] (omega (arith, faults-length (said text) [] (lines text), leb-true (length (lines text)) i h)) in
+      absurd (false≢true (rw none at e))
+  go false h =
+      let b = leb-false (length (lines text)) i h in
+      let r = rows-at text (suc i) (omega arith) b in
+      omega (arith, held-below (faults (said text) (saidBefore text (suc i)) (lineAt text (suc i))) k (rw r at e))

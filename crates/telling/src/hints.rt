@@ -172,7 +172,7 @@ fn of_beginning(code: &[u8]) -> u32 {
     if second.key == EQUALS {
         return NO_FORM;
     }
-    if names::variable_number(first.key) != 0 {
+    if Variable::number_of(first.key) != 0 {
         return NO_EQUALS;
     }
     if names::is_reserved(first.key) {

@@ -38,7 +38,7 @@ fn number_of(s: &[u8], key: u16) -> u16
     requires { ⌜ Faultless (now s) ⌝ }
     ensures { λ r. ⌜ r ≡ numberOf (said (now (s .entry))) (nameOf key) ⌝ }
 {
-    let number = program::names::variable_number(key);
+    let number = Variable::number_of(key);
     if number != 0 {
         return number as u16;
     }

@@ -7,14 +7,14 @@ use borrow.Author.Needs.{needs}
 use Rattle.names.proofs.is_unknown_variable.Statement.{statement}
 use Rattle.names.proofs.is_unknown_variable.Tie as tie
 
-variable-number-requires : tie.Need-variable-number-requires
-variable-number-requires c κs = search needs
+number-of-requires : tie.Need-number-of-requires
+number-of-requires c κs = search needs
 
 returns : tie.Need-returns
 returns c =
     let v = c .before in
     let s = v .before .before in
-    paper-known (said (now (s .args .s))) (s .args .key) (v .variable-number .result) (v .variable-number .ensures) (c .if1 .taken)
+    paper-known (said (now (s .args .s))) (s .args .key) (v .number-of .result) (v .number-of .ensures) (c .if1 .taken)
 
 declared-as-requires : tie.Need-declared-as-requires
 declared-as-requires c κs = search needs
@@ -23,8 +23,8 @@ returns-2 : tie.Need-returns-2
 returns-2 c =
     let v = c .before .before in
     let s = v .before .before in
-    variable-sought (now (s .args .s)) (s .args .key) (v .variable-number .result) (c .declared-as .result) (v .variable-number .ensures) (c .before .if1 .left) (c .declared-as .ensures)
+    variable-sought (now (s .args .s)) (s .args .key) (v .number-of .result) (c .declared-as .result) (v .number-of .ensures) (c .before .if1 .left) (c .declared-as .ensures)
 
 pub is-unknown-variable-spec : {M : Type 1} → statement M
 is-unknown-variable-spec =
-    tie.close (tie.spec variable-number-requires returns declared-as-requires returns-2)
+    tie.close (tie.spec number-of-requires returns declared-as-requires returns-2)

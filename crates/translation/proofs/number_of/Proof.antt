@@ -10,19 +10,19 @@ use borrow.Author.Needs.{needs}
 use Rattle.translation.proofs.number_of.Statement.{statement}
 use Rattle.translation.proofs.number_of.Tie as tie
 
-variable-number-requires : tie.Need-variable-number-requires
-variable-number-requires c κs = search needs
+number-of-requires : tie.Need-number-of-requires
+number-of-requires c κs = search needs
 
 cast-result : tie.Need-cast-result
 cast-result c =
     let v = c .before in
-    omega (arith, v .variable-number .ensures, paper-most (nameOf (v .before .before .args .key)))
+    omega (arith, v .number-of .ensures, paper-most (nameOf (v .before .before .args .key)))
 
 returns : tie.Need-returns
 returns c =
     let v = c .before in
     let s = v .before .before in
-    number-paper (said (now (s .args .s))) (s .args .key) (v .variable-number .result) (v .variable-number .ensures) (c .if1 .taken)
+    number-paper (said (now (s .args .s))) (s .args .key) (v .number-of .result) (v .number-of .ensures) (c .if1 .taken)
 
 find-requires : tie.Need-find-requires
 find-requires c κs = search needs
@@ -41,13 +41,13 @@ returns-2 c =
     let f = c .before in
     let v = f .before .before in
     let s = v .before .before in
-    number-user (said (now (s .args .s))) (s .args .key) (v .variable-number .result) (v .variable-number .ensures) (f .find .result .variables) (f .before .if1 .left) (f .find .ensures .rank)
+    number-user (said (now (s .args .s))) (s .args .key) (v .number-of .result) (v .number-of .ensures) (f .find .result .variables) (f .before .if1 .left) (f .find .ensures .rank)
 
 pub number-of-spec : {M : Type 1} → statement M
 number-of-spec =
     tie.close
     (tie.spec
-    variable-number-requires
+    number-of-requires
     cast-result
     returns
     find-requires
