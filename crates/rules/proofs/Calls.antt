@@ -7,14 +7,13 @@ use native.Mathlib.Omega.{arith}
 use borrow.Author.Tests.{lt-ltb, le-ltb, ltb-false}
 use lib.Dec.{ltb}
 use lib.ListN.{set}
-use Rattle.program.specs.Cells.{noTarget}
 use Rattle.program.specs.Statements.{Condition, CL}
 use Rattle.effects.specs.declared.Effect.{Effect}
 use Rattle.effects.specs.declared.Effect.the-variants.{Fails, Calls}
 use Rattle.effects.specs.Effects.{holds, calling, callingIf, effect}
 use Rattle.machine.specs.declared.Machine.{Machine}
 use Rattle.machine.specs.declared.Turned.{Turned}
-use Rattle.machine.specs.Turn.{keep, called, turn}
+use Rattle.machine.specs.Turn.{noHandler, keep, called, turn}
 use Rattle.rules.proofs.Values.{if-same}
 use Rattle.rules.proofs.Errors.{Leaves, as-is, InError, in-error}
 
@@ -22,8 +21,8 @@ use Rattle.rules.proofs.Errors.{Leaves, as-is, InError, in-error}
 -- cell, and the run stops; places and handler are as before. So the label's cell is next only where it is one of these two.
 pub record NoJump (label : ℕ) (m : Machine) (t : Turned) : Type 0 where
   pub error : InError 104 m t
-  pub unarmed : m .handler ≡ noTarget → Leaves (m .next + 1) (m .places) (m .kept) (m .handler) false t
-  pub armed : (m .handler ≡ noTarget → ⊥) → Leaves (m .next) (m .places) (m .kept) (m .handler) true t
+  pub unarmed : m .handler ≡ noHandler → Leaves (m .next + 1) (m .places) (m .kept) (m .handler) false t
+  pub armed : (m .handler ≡ noHandler → ⊥) → Leaves (m .next) (m .places) (m .kept) (m .handler) true t
   pub not-there : (label ≡ m .next + 1 → ⊥) → (label ≡ m .next → ⊥) → t .machine .next ≡ label → ⊥
 
 module _ {R : Type 0} (place number : R → ℕ) (m : Machine) (n : R) (c : Condition R) where
@@ -62,7 +61,7 @@ module _ {R : Type 0} (place number : R → ℕ) (m : Machine) (n : R) (c : Cond
           unarmed = f .unarmed;
           armed = λ h. f .full h k;
           not-there =
-              λ a b l. if-same (m .handler) noTarget
+              λ a b l. if-same (m .handler) noHandler
               (λ h. a (sym l ∙ f .unarmed h .next-cell))
               (λ h. b (sym l ∙ f .full h k .next-cell));
         })

@@ -9,14 +9,13 @@ use borrow.Author.Tests.{lt-leb, lt-ltb, le-ltb, eq-eqb, ne-eqb}
 use lib.Dec.{eqb, ltb}
 use lib.IntN.{ℤ, pos}
 use lib.ListN.{length, set, length-set}
-use Rattle.program.specs.Cells.{noTarget}
 use Rattle.effects.specs.declared.Effect.{Effect}
 use Rattle.effects.specs.declared.Effect.the-variants.{Fails}
 use Rattle.effects.specs.Effects.{read}
 use Rattle.machine.specs.declared.Machine.{Machine}
 use Rattle.machine.specs.declared.Turned.{Turned}
 use Rattle.machine.specs.declared.Event.{Event}
-use Rattle.machine.specs.Turn.{turned, onward, withHandler, recorded, keep, called, flagged, failed, turn}
+use Rattle.machine.specs.Turn.{noHandler, turned, onward, withHandler, recorded, keep, called, flagged, failed, turn}
 use Rattle.machine.specs.Events.{recordBytes}
 use Rattle.machine.specs.Run.{reach, runFrom, ended, after}
 use Rattle.rules.proofs.Values.{chosen, read-same, read-other}
@@ -37,11 +36,11 @@ pub record InError (error : ℕ) (m : Machine) (t : Turned) : Type 0 where
   pub hold : t .machine .hold ≡ m .hold
   pub wrote : t .wrote ≡ recorded 6 0 (pos error)
   -- Turn 24: with no handler the following cell is next; places and handler are as before.
-  pub unarmed : m .handler ≡ noTarget → Leaves (m .next + 1) (m .places) (m .kept) (m .handler) false t
+  pub unarmed : m .handler ≡ noHandler → Leaves (m .next + 1) (m .places) (m .kept) (m .handler) false t
   -- Turn 25: with a handler and a place free the handler is next; the following cell is kept, and no handler is armed.
-  pub armed : (m .handler ≡ noTarget → ⊥) → m .kept < 8 → Leaves (m .handler) (set (m .places) (m .kept) (m .next + 1)) (m .kept + 1) noTarget false t
+  pub armed : (m .handler ≡ noHandler → ⊥) → m .kept < 8 → Leaves (m .handler) (set (m .places) (m .kept) (m .next + 1)) (m .kept + 1) noHandler false t
   -- Turn 25: with a handler and eight places kept the run stops; next cell, places and handler are as before.
-  pub full : (m .handler ≡ noTarget → ⊥) → 8 ≤ m .kept → Leaves (m .next) (m .places) (m .kept) (m .handler) true t
+  pub full : (m .handler ≡ noHandler → ⊥) → 8 ≤ m .kept → Leaves (m .next) (m .places) (m .kept) (m .handler) true t
 
 -- A turn leaves its own parts.
 pub as-is : (t : Turned) → Leaves (t .machine .next) (t .machine .places) (t .machine .kept) (t .machine .handler) (t .stops) t
@@ -53,10 +52,10 @@ halted error m = record { machine = flagged error m; wrote = recorded 6 0 (pos e
 
 each-way : (P : Turned → Type 0) (error : ℕ) (m : Machine)
     → P (turned (onward (flagged error m)) (recorded 6 0 (pos error)))
-    → P (turned (called (m .handler) (withHandler noTarget (flagged error m))) (recorded 6 0 (pos error)))
+    → P (turned (called (m .handler) (withHandler noHandler (flagged error m))) (recorded 6 0 (pos error)))
     → P (halted error m) → P (failed error m)
 unfolding failed
-each-way P error m a b c = chosen P (eqb (m .handler) noTarget) (λ k. a) (λ k. chosen P (ltb (m .kept) 8) (λ l. b) (λ l. c))
+each-way P error m a b c = chosen P (eqb (m .handler) noHandler) (λ k. a) (λ k. chosen P (ltb (m .kept) 8) (λ l. b) (λ l. c))
 
 pub in-error : (cells error : ℕ) (m : Machine) → InError error m (turn cells (Fails error) m)
 unfolding turn failed flagged called keep
@@ -66,9 +65,9 @@ in-error cells error m =
       motion = each-way (λ (t : Turned). t .machine .motion ≡ m .motion) error m refl refl refl;
       hold = each-way (λ (t : Turned). t .machine .hold ≡ m .hold) error m refl refl refl;
       wrote = each-way (λ (t : Turned). t .wrote ≡ recorded 6 0 (pos error)) error m refl refl refl;
-      unarmed = λ e. rw (eq-eqb (m .handler) noTarget e) (as-is _);
-      armed = λ n k. rw (ne-eqb (m .handler) noTarget n, lt-ltb (m .kept) 8 k) (as-is _);
-      full = λ n k. rw (ne-eqb (m .handler) noTarget n, le-ltb (m .kept) 8 k) (as-is _);
+      unarmed = λ e. rw (eq-eqb (m .handler) noHandler e) (as-is _);
+      armed = λ n k. rw (ne-eqb (m .handler) noHandler n, lt-ltb (m .kept) 8 k) (as-is _);
+      full = λ n k. rw (ne-eqb (m .handler) noHandler n, le-ltb (m .kept) 8 k) (as-is _);
     }
 
 -- The same, variable by variable.
@@ -91,9 +90,9 @@ ef-in-error cells error m l =
     ∙ read-same (set (m .variables) 10 (pos error)) 15 (pos 1) (omega (arith, length-set (m .variables) 10 (pos error)))
 
 -- Turn 25: with a handler and eight places kept an error stops the run; next cell, places and handler are as before.
-pub stopped : (cells error : ℕ) (m : Machine) → (m .handler ≡ noTarget → ⊥) → 8 ≤ m .kept → turn cells (Fails error) m ≡ halted error m
+pub stopped : (cells error : ℕ) (m : Machine) → (m .handler ≡ noHandler → ⊥) → 8 ≤ m .kept → turn cells (Fails error) m ≡ halted error m
 unfolding turn failed
-stopped cells error m n k = rw (ne-eqb (m .handler) noTarget n, le-ltb (m .kept) 8 k)
+stopped cells error m n k = rw (ne-eqb (m .handler) noHandler n, le-ltb (m .kept) 8 k)
 
 pub unmoved : (error : ℕ) (m : Machine) → Leaves (m .next) (m .places) (m .kept) (m .handler) true (halted error m)
 unfolding flagged
@@ -101,7 +100,7 @@ unmoved error m = as-is (halted error m)
 
 -- Turn 25: the reason is then 2, whatever is left of the budget.
 pub stopped-run : (act : Machine → Effect) (cells left t : ℕ) (es : List Event) (m : Machine) (error : ℕ)
-    → m .next < cells → act (reach t es m .machine) ≡ Fails error → (reach t es m .machine .handler ≡ noTarget → ⊥) → 8 ≤ reach t es m .machine .kept
+    → m .next < cells → act (reach t es m .machine) ≡ Fails error → (reach t es m .machine .handler ≡ noHandler → ⊥) → 8 ≤ reach t es m .machine .kept
     → runFrom act cells (suc left) t es m ≡ after (recordBytes t (recorded 6 0 (pos error))) (ended 2 (suc t) (flagged error (reach t es m .machine)))
 unfolding runFrom
 stopped-run act cells left t es m error here a n k =

@@ -13,10 +13,10 @@ use lib.ListN.{length, set, length-set, length-append}
 use Rattle.numbers.specs.Bytes.{bytes}
 use Rattle.numbers.specs.Tests.{eqZ}
 use Rattle.program.specs.Variables.{inRange, literals, rangeOf, readOnly, allInputs}
-use Rattle.program.specs.Statements.{Value, Statement, SetWith, IC, DC, MA, MR}
+use Rattle.program.specs.Statements.{Operator, Divided, Value, Statement, SetWith, IC, DC, MA, MR}
 use Rattle.effects.specs.declared.Effect.{Effect}
-use Rattle.effects.specs.declared.Effect.the-variants.{Fails, Stores, Passes, Goes, Calls, Returns, Ends, Stays, Holds, Arms, Moves, Slews, Prints}
-use Rattle.effects.specs.Effects.{read, storing, storingResult, operate, storingWith, moving, value, effect}
+use Rattle.effects.specs.declared.Effect.the-variants.{Fails, Stores, Passes, Goes, Calls, Returns, Ends, Stays, Holds, Arms, Disarms, Moves, Slews, Prints}
+use Rattle.effects.specs.Effects.{read, storing, storingResult, operate, zeroDivisor, storingWith, moving, value, effect}
 use Rattle.machine.specs.declared.Machine.{Machine}
 use Rattle.machine.specs.declared.Motion.{Motion}
 use Rattle.machine.specs.declared.Motion.the-variants.{Still, To, Slewing}
@@ -96,6 +96,7 @@ module _ (cells variables : ℕ) (holds : ℕ → Bool) (m : Machine) (r : Ruled
   ef-cleared Stays s a = absurd (a set-before)
   ef-cleared (Holds turns) s a = absurd (a (ap (λ (x : List ℤ). read x 15) (held-variables turns m) ∙ set-before))
   ef-cleared (Arms cell) s a = absurd (a set-before)
+  ef-cleared Disarms s a = absurd (a set-before)
   ef-cleared (Moves target kind z) s a = absurd (a (read-other (m .variables) 14 15 (movingBit (To target)) (λ e. omega arith) ∙ set-before))
   ef-cleared (Slews z) s a = absurd (a (read-other (m .variables) 14 15 (movingBit (slew z)) (λ e. omega arith) ∙ set-before))
   ef-cleared (Prints v z) s a = absurd (a set-before)
@@ -150,8 +151,8 @@ module _ {R : Type 0} (place number : R → ℕ) (vars : List ℤ) (kept hold : 
   target-next x e = (λ f. rw (e, f), λ f. rw (e, f))
 
   -- A zero divisor is 102, whatever the ranges.
-  pub divisor-first : (v : R) (x y : Value R) → worth y ≡ pos 0 → does (SetWith v x 4 y) ≡ Fails 102
-  unfolding effect storingWith eqZ
+  pub divisor-first : (v : R) (x y : Value R) → worth y ≡ pos 0 → does (SetWith v x Divided y) ≡ Fails 102
+  unfolding effect storingWith zeroDivisor eqZ
   divisor-first v x y e = rw e
 
   -- IC and DC past the literal range are 101, whatever the variable's range.
@@ -162,7 +163,7 @@ module _ {R : Type 0} (place number : R → ℕ) (vars : List ℤ) (kept hold : 
   count-first v = (λ f. rw f, λ f. rw f)
 
   -- A result outside the literal range is 101, whatever the variable's range; only one inside it can be 103.
-  module _ (v : R) (x y : Value R) (o : ℕ) (divides : (eqb o 4 && eqZ (worth y) (pos 0)) ≡ false) where
+  module _ (v : R) (x y : Value R) (o : Operator) (divides : zeroDivisor o (worth y) ≡ false) where
     pub literals-next : inRange literals (operate o (worth x) (worth y)) ≡ false → does (SetWith v x o y) ≡ Fails 101
     unfolding effect storingWith storingResult
     literals-next f = rw (divides, f)

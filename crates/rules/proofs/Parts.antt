@@ -12,15 +12,15 @@ use lib.IntN.{ℤ, pos, negsuc, _+ℤ_, _*ℤ_}
 use lib.ListN.{length, getD, set, length-set}
 use lib.Seq.{getD-set-same, getD-set-other}
 use Rattle.numbers.specs.Tests.{between}
-use Rattle.program.specs.Variables.{range, rangeOf, present, allInputs}
-use Rattle.program.specs.Cells.{noTarget}
+use Rattle.program.specs.Variables.{rangeOf, present, allInputs}
 use Rattle.program.proofs.Keys.{both, both-of}
+use Rattle.program.proofs.Ranges.{input-range}
 use Rattle.effects.specs.Effects.{read}
 use Rattle.machine.specs.declared.Machine.{Machine}
 use Rattle.machine.specs.declared.Motion.{Motion}
 use Rattle.machine.specs.declared.Motion.the-variants.{Still, To, Slewing}
 use Rattle.machine.specs.Events.{input}
-use Rattle.machine.specs.Turn.{machine, movingBit}
+use Rattle.machine.specs.Turn.{noHandler, machine, movingBit}
 use Rattle.rules.specs.Rules.{Ruled, goodMotion}
 use Rattle.rules.proofs.Values.{Values, errorNumber, mayHold, values-set, read-same, read-other, inputs-other, if-same}
 
@@ -42,7 +42,7 @@ pub record Kept (cells : ℕ) (places : List ℕ) (kept : ℕ) : Type 0 where
 pub record Way (cells : ℕ) (holds : ℕ → Bool) (next : ℕ) (places : List ℕ) (kept handler hold : ℕ) : Type 0 where
   pub back : Kept cells places kept
   pub next-cell : next ≤ cells
-  pub handler-cell : (handler ≡ noTarget → ⊥) → handler ≤ cells
+  pub handler-cell : (handler ≡ noHandler → ⊥) → handler ≤ cells
   pub hold-most : hold ≤ 64999
   pub hold-at : (hold ≡ 0 → ⊥) → T (holds next)
 
@@ -118,11 +118,6 @@ unfolding rangeOf allInputs read
 inputs-range variables vars ok =
     four-bits (read vars 16) (read vars 17) (read vars 18) (read vars 19)
     (ok .in-range 16 tt (λ e. omega arith)) (ok .in-range 17 tt (λ e. omega arith)) (ok .in-range 18 tt (λ e. omega arith)) (ok .in-range 19 tt (λ e. omega arith))
-
-input-range : (v : ℕ) (a b : ℤ) → 16 ≤ v → v < 20 → rangeOf v a b ≡ range (pos 0) (pos 1)
-unfolding rangeOf
-input-range v a b l h =
-    rw (le-ltb v 6 (omega arith), le-ltb v 8 (omega arith), ne-eqb v 8 (λ e. omega arith), ne-eqb v 9 (λ e. omega arith), ne-eqb v 10 (λ e. omega arith), lt-ltb v 20 h)
 
 input-present : (variables v : ℕ) → 16 ≤ v → v < 20 → T (present variables v)
 input-present variables v l h = rw (le-leb 1 v (omega arith), le-leb v 20 (omega arith)) tt
@@ -207,7 +202,7 @@ module _ {cells : ℕ} {holds : ℕ → Bool} {next : ℕ} {places : List ℕ} {
   pub way-at : (to : ℕ) {others : List ℕ} {count : ℕ} → to ≤ cells → Kept cells others count → hold ≡ 0 → Way cells holds to others count handler hold
   way-at to t b h = record { back = b; next-cell = t; handler-cell = w .handler-cell; hold-most = w .hold-most; hold-at = λ n. absurd (n h) }
 
-  pub way-arm : (to : ℕ) → ((to ≡ noTarget → ⊥) → to ≤ cells) → Way cells holds next places kept to hold
+  pub way-arm : (to : ℕ) → ((to ≡ noHandler → ⊥) → to ≤ cells) → Way cells holds next places kept to hold
   way-arm to t = record { back = w .back; next-cell = w .next-cell; handler-cell = t; hold-most = w .hold-most; hold-at = w .hold-at }
 
   pub way-hold : (turns : ℕ) → turns ≤ 64999 → T (holds next) → Way cells holds next places kept handler turns

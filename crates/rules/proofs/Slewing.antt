@@ -9,7 +9,7 @@ use lib.Dec.{T, eqb, leb, ltb}
 use lib.IntN.{ℤ, pos}
 use Rattle.numbers.specs.Tests.{eqZ}
 use Rattle.effects.specs.declared.Effect.{Effect}
-use Rattle.effects.specs.declared.Effect.the-variants.{Fails, Stores, Passes, Goes, Calls, Returns, Ends, Stays, Holds, Arms, Moves, Slews, Prints}
+use Rattle.effects.specs.declared.Effect.the-variants.{Fails, Stores, Passes, Goes, Calls, Returns, Ends, Stays, Holds, Arms, Disarms, Moves, Slews, Prints}
 use Rattle.effects.specs.Effects.{read}
 use Rattle.machine.specs.declared.Machine.{Machine}
 use Rattle.machine.specs.declared.Motion.{Motion}
@@ -57,6 +57,7 @@ turn-nonzero cells Ends m h = h
 turn-nonzero cells Stays m h = h
 turn-nonzero cells (Holds turns) m h = chosen (λ (x : Machine). NoZeroSlew (x .motion)) (ltb 0 turns) (λ k. h) (λ k. h)
 turn-nonzero cells (Arms cell) m h = h
+turn-nonzero cells Disarms m h = h
 turn-nonzero cells (Moves target kind z) m h = to target
 turn-nonzero cells (Slews z) m h = slew-nonzero z
 turn-nonzero cells (Prints v z) m h = h

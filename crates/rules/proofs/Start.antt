@@ -13,10 +13,11 @@ use lib.Seq.{sets-eq, length-sets, getD-append-add, getD-drop, getD-take}
 use Rattle.numbers.specs.Tests.{allBelow, eqZ}
 use Rattle.program.specs.Variables.{inRange, literals, rangeOf, present, startVariables, allInputs}
 use Rattle.program.proofs.Keys.{both, both-of, either}
+use Rattle.program.proofs.Ranges.{user-range}
 use Rattle.effects.specs.Effects.{read}
 use Rattle.machine.specs.Turn.{startMachine, movingBit}
 use Rattle.rules.specs.Rules.{Ruled, goodMotion}
-use Rattle.rules.proofs.Values.{mayHold, eqZ-eq, or-first, or-second, user-range, if-same, if-below}
+use Rattle.rules.proofs.Values.{mayHold, eqZ-eq, or-first, or-second, if-same, if-below}
 use Rattle.rules.proofs.Parts.{together}
 
 -- A test that holds below n holds of each number below n.

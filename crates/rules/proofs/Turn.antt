@@ -10,19 +10,18 @@ use lib.Dec.{T, eqb, leb, ltb, leb→le, ltb→lt, nltb→le, le→leb, T-not}
 use lib.IntN.{ℤ, pos, negsuc, natAbs}
 use lib.ListN.{set, getD}
 use Rattle.numbers.specs.Tests.{allOf, between, eqZ}
-use Rattle.program.specs.Variables.{inRange, literals, rangeOf, present, readOnly}
-use Rattle.program.specs.Cells.{holdRange, slewRange, noTarget}
-use Rattle.program.specs.Statements.{Value, Statement, Set, SetWith, IC, DC, BR, CL, RT, E, H, Hold, OE, Disarm, MA, MR, SL, PR, writes, targets}
+use Rattle.program.specs.Variables.{inRange, literals, holdRange, slewRange, rangeOf, present, readOnly}
+use Rattle.program.specs.Statements.{Operator, Value, Statement, Set, SetWith, IC, DC, BR, CL, RT, E, H, Hold, OE, Disarm, MA, MR, SL, PR, writes, targets}
 use Rattle.program.specs.Statements as S
 use Rattle.program.proofs.Keys.{both, both-of}
 use Rattle.effects.specs.declared.Effect.{Effect}
-use Rattle.effects.specs.declared.Effect.the-variants.{Fails, Stores, Passes, Goes, Calls, Returns, Ends, Stays, Holds, Arms, Moves, Slews, Prints}
-use Rattle.effects.specs.Effects.{read, storing, storingResult, operate, storingWith, calling, returning, waiting, holding, moving, slewing, printing, branching, callingIf, effect}
+use Rattle.effects.specs.declared.Effect.the-variants.{Fails, Stores, Passes, Goes, Calls, Returns, Ends, Stays, Holds, Arms, Disarms, Moves, Slews, Prints}
+use Rattle.effects.specs.Effects.{read, storing, storingResult, operate, zeroDivisor, storingWith, calling, returning, waiting, holding, moving, slewing, printing, branching, callingIf, effect}
 use Rattle.machine.specs.declared.Machine.{Machine}
 use Rattle.machine.specs.declared.Motion.{Motion}
 use Rattle.machine.specs.declared.Motion.the-variants.{To}
 use Rattle.machine.specs.declared.Turned.{Turned}
-use Rattle.machine.specs.Turn.{machine, stored, keep, release, lastPlace, inMotion, slew, called, returned, held, flagged, failed, turn}
+use Rattle.machine.specs.Turn.{noHandler, machine, stored, keep, release, lastPlace, inMotion, slew, called, returned, held, flagged, failed, turn}
 use Rattle.rules.specs.Rules.{Ruled, goodMotion}
 use Rattle.rules.specs.Good.{Good, isHold, writable}
 use Rattle.rules.proofs.Values.{errorNumber, mayHold, chosen, or-second, not-same, if-same, if-below}
@@ -54,7 +53,8 @@ module _ (cells variables : ℕ) (holds : ℕ → Bool) (m : Machine) where
   Sound Ends = m .hold ≡ 0
   Sound Stays = m .hold ≡ 0
   Sound (Holds turns) = (turns ≤ 64999) × T (holds (m .next))
-  Sound (Arms cell) = ((cell ≡ noTarget → ⊥) → cell ≤ cells) × (m .hold ≡ 0)
+  Sound (Arms cell) = (cell ≤ cells) × (m .hold ≡ 0)
+  Sound Disarms = m .hold ≡ 0
   Sound (Moves target kind z) = T (inRange literals target) × (m .hold ≡ 0)
   Sound (Slews z) = T (inRange slewRange z) × (m .hold ≡ 0)
   Sound (Prints v z) = m .hold ≡ 0
@@ -71,10 +71,10 @@ module _ (cells variables : ℕ) (holds : ℕ → Bool) (m : Machine) where
     unfolding storingResult
     fine-result v z w = chosen Sound (inRange literals z) (λ t. fine-storing v z w) (λ t. (tt, quiet))
 
-    fine-with : (v o : ℕ) (x y : ℤ) → T (writable variables v) → Sound (storingWith (m .variables) v o x y)
+    fine-with : (v : ℕ) (o : Operator) (x y : ℤ) → T (writable variables v) → Sound (storingWith (m .variables) v o x y)
     unfolding storingWith
     fine-with v o x y w =
-        chosen Sound (eqb o 4 && eqZ y (pos 0)) (λ t. (tt, quiet)) (λ t. fine-result v (operate o x y) w)
+        chosen Sound (zeroDivisor o y) (λ t. (tt, quiet)) (λ t. fine-result v (operate o x y) w)
 
     fine-calling : (cell : ℕ) → cell ≤ cells → Sound (calling (m .kept) cell)
     unfolding calling
@@ -151,8 +151,8 @@ module _ (cells variables : ℕ) (holds : ℕ → Bool) (m : Machine) where
     sound-effect E g r e = no-hold r e
     sound-effect H g r e = fine-waiting (no-hold r e)
     sound-effect (Hold x) g r e = sound-holding _ (r .hold) (subst T (sym e) tt)
-    sound-effect (OE n) g r e = (λ o. first-named n (g .named), no-hold r e)
-    sound-effect Disarm g r e = (λ o. absurd (o refl), no-hold r e)
+    sound-effect (OE n) g r e = (first-named n (g .named), no-hold r e)
+    sound-effect Disarm g r e = no-hold r e
     sound-effect (MA x) g r e = fine-moving (no-hold r e) _ 2 _
     sound-effect (MR x) g r e = fine-moving (no-hold r e) _ 3 _
     sound-effect (SL x) g r e = fine-slewing (no-hold r e) _
@@ -193,10 +193,10 @@ module _ {cells variables : ℕ} {holds : ℕ → Bool} {m : Machine} (r : Ruled
   unfolding failed flagged called keep
   ruled-failed error t h =
       let g = flagged-registers error t in
-      chosen (λ (x : Turned). Ruled cells variables holds (x .machine)) (eqb (m .handler) noTarget)
+      chosen (λ (x : Turned). Ruled cells variables holds (x .machine)) (eqb (m .handler) noHandler)
       (λ k. together g (onward-way h))
       (λ n. chosen (λ (x : Turned). Ruled cells variables holds (x .machine)) (ltb (m .kept) 8)
-      (λ k. together g (way-arm (called-way (m .handler) (r .handler (not-same (m .handler) noTarget n)) (ltb→lt (m .kept) 8 k) h) noTarget (λ o. absurd (o refl))))
+      (λ k. together g (way-arm (called-way (m .handler) (r .handler (not-same (m .handler) noHandler n)) (ltb→lt (m .kept) 8 k) h) noHandler (λ o. absurd (o refl))))
       (λ k. together g (way-of r)))
 
   ruled-held : (turns : ℕ) → turns ≤ 64999 → T (holds (m .next)) → Ruled cells variables holds (held turns m)
@@ -218,7 +218,8 @@ module _ {cells variables : ℕ} {holds : ℕ → Bool} {m : Machine} (r : Ruled
   ruled-effect Ends s = together (registers-of r) (way-at (way-of r) cells (omega arith) (way-of r .back) s)
   ruled-effect Stays s = r
   ruled-effect (Holds turns) s = ruled-held turns (s .0) (s .1)
-  ruled-effect (Arms cell) s = together (registers-of r) (way-arm (onward-way (s .1)) cell (s .0))
+  ruled-effect (Arms cell) s = together (registers-of r) (way-arm (onward-way (s .1)) cell (λ o. s .0))
+  ruled-effect Disarms s = together (registers-of r) (way-arm (onward-way s) noHandler (λ o. absurd (o refl)))
   ruled-effect (Moves target kind z) s = together (registers-move (registers-of r) (To target) (s .0)) (onward-way (s .1))
   ruled-effect (Slews z) s = together (registers-move (registers-of r) (slew z) (good-slew z (s .0))) (onward-way (s .1))
   ruled-effect (Prints v z) s = together (registers-of r) (onward-way s)

@@ -15,6 +15,7 @@ use lib.Signed.{leZ}
 use Rattle.numbers.specs.Tests.{between, eqZ}
 use Rattle.program.specs.Variables.{inRange, literals, rangeOf, present, allInputs}
 use Rattle.program.proofs.Keys.{both, both-of}
+use Rattle.program.proofs.Ranges.{range-other}
 use Rattle.effects.specs.Effects.{read}
 
 -- By whether two numbers are the same; by whether one is below the other.
@@ -75,24 +76,6 @@ inputs-other vars v z h =
       getD-set-other vars v 17 z (pos 0) (λ e. ⊎-elim (λ a. omega arith) (λ a. omega arith) h),
       getD-set-other vars v 18 z (pos 0) (λ e. ⊎-elim (λ a. omega arith) (λ a. omega arith) h),
       getD-set-other vars v 19 z (pos 0) (λ e. ⊎-elim (λ a. omega arith) (λ a. omega arith) h),
-    )
-
--- Only the ranges of VI (8) and VM (9) go by other variables.
-pub range-other : (w : ℕ) (a b c d : ℤ) → (w ≡ 8 → ⊥) → (w ≡ 9 → ⊥) → rangeOf w a b ≡ rangeOf w c d
-unfolding rangeOf
-range-other w a b c d h k = rw (ne-eqb w 8 h, ne-eqb w 9 k)
-
-pub user-range : (v : ℕ) (a b : ℤ) → 20 < v → rangeOf v a b ≡ literals
-unfolding rangeOf
-user-range v a b h =
-    rw (
-      le-ltb v 6 (omega arith),
-      le-ltb v 8 (omega arith),
-      ne-eqb v 8 (λ e. omega arith),
-      ne-eqb v 9 (λ e. omega arith),
-      ne-eqb v 10 (λ e. omega arith),
-      le-ltb v 20 (omega arith),
-      ne-eqb v 20 (λ e. omega arith),
     )
 
 -- VI is at most VM - 1 exactly if VI + 1 is at most VM.

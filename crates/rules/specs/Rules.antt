@@ -7,13 +7,12 @@ use lib.Dec.{T}
 use lib.IntN.{ℤ, pos}
 use lib.ListN.{length, getD}
 use Rattle.numbers.specs.Tests.{between, eqZ}
-use Rattle.program.specs.Variables.{inRange, literals, rangeOf, present, allInputs}
-use Rattle.program.specs.Cells.{slewRange, noTarget}
+use Rattle.program.specs.Variables.{inRange, literals, slewRange, rangeOf, present, allInputs}
 use Rattle.effects.specs.Effects.{read}
 use Rattle.machine.specs.declared.Machine.{Machine}
 use Rattle.machine.specs.declared.Motion.{Motion}
 use Rattle.machine.specs.declared.Motion.the-variants.{Still, To, Slewing}
-use Rattle.machine.specs.Turn.{movingBit}
+use Rattle.machine.specs.Turn.{noHandler, movingBit}
 
 -- Turn 5: the motion's number: a target in P's range, a velocity in SL's.
 unfoldable pub goodMotion : Motion → Bool
@@ -32,7 +31,7 @@ pub record Ruled (cells variables : ℕ) (holds : ℕ → Bool) (m : Machine) : 
   pub next : m .next ≤ cells
   pub kept : m .kept ≤ 8
   pub places : (k : ℕ) → getD (m .places) k 0 ≤ cells
-  pub handler : (m .handler ≡ noTarget → ⊥) → m .handler ≤ cells
+  pub handler : (m .handler ≡ noHandler → ⊥) → m .handler ≤ cells
   pub hold : m .hold ≤ 64999
   pub hold-at : (m .hold ≡ 0 → ⊥) → T (holds (m .next))
   pub unused-places : (k : ℕ) → m .kept ≤ k → getD (m .places) k 0 ≡ 0
