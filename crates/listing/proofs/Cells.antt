@@ -102,7 +102,7 @@ module _ (s : List ℕ) (a : Accepted s) where
   unfolding conditionNamed conditionOf
   compared c t l r =
       let h = selected 6 (c .selector) refl t in
-      rw (ne-eqb (c .selector) 0 (λ e. omega arith)) (l, h, r)
+      rw (ne-eqb (c .selector) 0 (λ e. omega arith)) (l, r)
 
 -- The tests on a cell one by one.
 pub record Fit (s : List ℕ) (place : ℕ) (u : Use) : Type 0 where
@@ -184,7 +184,7 @@ module _ (s : List ℕ) (a : Accepted s) (k : ℕ) where
 
   said-set-with : T (fits s (16 * k) (uses 2 true 7 true true false)) → Said
   unfolding statementBy statementNamed cellAt
-  said-set-with t = let f = fit (uses 2 true 7 true true false) t in by 2 (f .operation) (written (f .written), left-sound (f .left), selected s a 7 (field 1 (16 * k + 2) s) refl (f .selector), right-sound (f .right))
+  said-set-with t = let f = fit (uses 2 true 7 true true false) t in by 2 (f .operation) (written (f .written), left-sound (f .left), right-sound (f .right))
 
   said-IC : T (fits s (16 * k) (uses 3 true 0 false false false)) → Said
   unfolding statementBy statementNamed cellAt

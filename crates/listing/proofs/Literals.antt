@@ -17,7 +17,7 @@ use Rattle.program.specs.Names.{letter, digit, wordCharacter}
 use Rattle.program.specs.Variables.{inRange, literals}
 use Rattle.program.proofs.Keys.{both, both-of}
 use Rattle.text.specs.Tokens.{Token, tokens, joins, printable}
-use Rattle.text.specs.Forms.{digits, decimal, literal, take}
+use Rattle.text.specs.Forms.{digits, decimal, literal, took}
 use Rattle.listing.specs.Listing.{printed, width, plain}
 use Rattle.listing.proofs.Kit.{is-true, right-of, all-append, all-then, first-most, first-passes}
 use Rattle.listing.proofs.Tokens.{token, follows, Stops, fine, tokens-word, tokens-sign, word-is-not, word-fine}
@@ -101,12 +101,12 @@ literalTokens (negsuc n) g ts = token (ascii "-") true ∷ token (figures (suc n
 below : (n : ℕ) → n ≤ 2147483647 → n < 10 ^ 10
 below n h = omega arith
 
-literal-digits : (n : ℕ) (g : Bool) (ts : List Token) → n < 10 ^ 10 → literal (token (figures n) g ∷ ts) ≡ take (pos n) ts
+literal-digits : (n : ℕ) (g : Bool) (ts : List Token) → n < 10 ^ 10 → literal (token (figures n) g ∷ ts) ≡ took (pos n) ts
 unfolding literal
 literal-digits n g [] h = rw (figures-digits n g, figures-value n h)
 literal-digits n g (u ∷ ts) h = rw (figures-digits n g, figures-value n h)
 
-pub literal-read : (z : ℤ) (g : Bool) (ts : List Token) → T (inRange literals z) → literal (literalTokens z g ts) ≡ take z ts
+pub literal-read : (z : ℤ) (g : Bool) (ts : List Token) → T (inRange literals z) → literal (literalTokens z g ts) ≡ took z ts
 unfolding literal digits eqList ascii allOf digit
 literal-read (pos n) g ts h = literal-digits n g ts (below n (leb→le n 2147483647 h))
 literal-read (negsuc n) g ts h =

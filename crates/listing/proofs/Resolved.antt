@@ -18,6 +18,7 @@ use Rattle.program.specs.declared.Cell.{Cell}
 use Rattle.program.specs.declared.Operand.{Operand}
 use Rattle.program.specs.declared.Operand.the-variants as O
 use Rattle.program.proofs.Keys.{both, either}
+use Rattle.program.proofs.Selectors.{operator-number, comparison-number}
 use Rattle.image.specs.Layout.{labelCount, variableCount, cellAt, operandAt, labelTarget}
 use Rattle.image.specs.Check.{Use, uses, layouts, fits, goodWritten, goodSelector, goodOperand, goodTarget}
 use Rattle.listing.proofs.Cells.{from-any, Fit, fitting}
@@ -84,9 +85,10 @@ module _ (s : List ℕ) where
   unfolding statementOf statementBy cellOf
   set-stands v l w u = record { resolved = (w, operand-read l u); again = rw (operand-again l u) }
 
-  set-with-stands : (v o : ℕ) (l r : Operand) → Written v → Used l → Used r → Stands (cell 2 v o l r 0)
+  set-with-stands : (v o : ℕ) (l r : Operand) → Written v → (1 ≤ o) × (o ≤ 7) → Used l → Used r → Stands (cell 2 v o l r 0)
   unfolding statementOf statementBy cellOf
-  set-with-stands v o l r w u t = record { resolved = (w, operand-read l u, operand-read r t); again = rw (operand-again l u, operand-again r t) }
+  set-with-stands v o l r w h u t =
+      record { resolved = (w, operand-read l u, operand-read r t); again = rw (operand-again l u, operand-again r t, operator-number o (h .0) (h .1)) }
 
   IC-stands : (v : ℕ) → Written v → Stands (cell 3 v 0 O.Nothing O.Nothing 0)
   unfolding statementOf statementBy cellOf
@@ -104,18 +106,18 @@ module _ (s : List ℕ) where
   unfolding statementOf statementBy conditionOf cellOf jumpOf
   CL-stands n a = record { resolved = (a, tt); again = refl }
 
-  BR-if-stands : (n c : ℕ) (l r : Operand) → Aimed n → 1 ≤ c → Used l → Used r → Stands (cell 5 0 c l r n)
+  BR-if-stands : (n c : ℕ) (l r : Operand) → Aimed n → (1 ≤ c) × (c ≤ 6) → Used l → Used r → Stands (cell 5 0 c l r n)
   unfolding statementOf statementBy conditionOf cellOf jumpOf
   BR-if-stands n c l r a h u t = record {
     resolved = rw (ne-eqb c 0 (λ e. omega arith)) (a, (operand-read l u, operand-read r t));
-    again = rw (ne-eqb c 0 (λ e. omega arith)) (rw (operand-again l u, operand-again r t));
+    again = rw (ne-eqb c 0 (λ e. omega arith)) (rw (operand-again l u, operand-again r t, comparison-number c (h .0) (h .1)));
   }
 
-  CL-if-stands : (n c : ℕ) (l r : Operand) → Aimed n → 1 ≤ c → Used l → Used r → Stands (cell 6 0 c l r n)
+  CL-if-stands : (n c : ℕ) (l r : Operand) → Aimed n → (1 ≤ c) × (c ≤ 6) → Used l → Used r → Stands (cell 6 0 c l r n)
   unfolding statementOf statementBy conditionOf cellOf jumpOf
   CL-if-stands n c l r a h u t = record {
     resolved = rw (ne-eqb c 0 (λ e. omega arith)) (a, (operand-read l u, operand-read r t));
-    again = rw (ne-eqb c 0 (λ e. omega arith)) (rw (operand-again l u, operand-again r t));
+    again = rw (ne-eqb c 0 (λ e. omega arith)) (rw (operand-again l u, operand-again r t, comparison-number c (h .0) (h .1)));
   }
 
   RT-stands : Stands (cell 7 0 0 O.Nothing O.Nothing 0)
@@ -176,9 +178,9 @@ module _ (s : List ℕ) where
   unfolding goodTarget
   aimed o n e t = rw e at t
 
-  chosen : (n : ℕ) → T (goodSelector 6 n) → 1 ≤ n
+  chosen : (last n : ℕ) → eqb last 0 ≡ false → T (goodSelector last n) → (1 ≤ n) × (n ≤ last)
   unfolding goodSelector
-  chosen n t = leb→le 1 n (both (leb 1 n) (leb n 6) t .0)
+  chosen last n e t = let q = both (leb 1 n) (leb n last) (rw e at t) in (leb→le 1 n (q .0), leb→le n last (q .1))
 
   -- The fields that a layout does not use are empty.
   unwritten : (b : Bool) (v : ℕ) → T (goodWritten (variableCount s) b v) → v ≡ cond b v 0
@@ -241,9 +243,9 @@ module _ (s : List ℕ) where
     unfolding cellAt
     aims o e t = aimed o (field 2 (16 * k + 12) s) e t
 
-    chooses : T (goodSelector 6 (field 1 (16 * k + 2) s)) → 1 ≤ at .selector
+    chooses : (last : ℕ) → eqb last 0 ≡ false → T (goodSelector last (field 1 (16 * k + 2) s)) → (1 ≤ at .selector) × (at .selector ≤ last)
     unfolding cellAt
-    chooses t = chosen (field 1 (16 * k + 2) s) t
+    chooses last e t = chosen last (field 1 (16 * k + 2) s) e t
 
     arms : T (goodTarget s 10 true (field 2 (16 * k + 12) s)) → Stands (cell 10 0 0 O.Nothing O.Nothing (at .target))
     unfolding cellAt
@@ -256,7 +258,7 @@ module _ (s : List ℕ) where
         from-any (fits s (16 * k)) (Stands at) layouts (
           fit (uses 1 true 0 true false false) (λ f. set-stands (at .written) (at .left) (writes (f .written)) (left (f .left))),
           (
-            fit (uses 2 true 7 true true false) (λ f. set-with-stands (at .written) (at .selector) (at .left) (at .right) (writes (f .written)) (left (f .left)) (right (f .right))),
+            fit (uses 2 true 7 true true false) (λ f. set-with-stands (at .written) (at .selector) (at .left) (at .right) (writes (f .written)) (chooses 7 refl (f .selector)) (left (f .left)) (right (f .right))),
             (
               fit (uses 3 true 0 false false false) (λ f. IC-stands (at .written) (writes (f .written))),
               (
@@ -264,11 +266,11 @@ module _ (s : List ℕ) where
                 (
                   fit (uses 5 false 0 false false true) (λ f. BR-stands (at .target) (aims 5 refl (f .target))),
                   (
-                    fit (uses 5 false 6 true true true) (λ f. BR-if-stands (at .target) (at .selector) (at .left) (at .right) (aims 5 refl (f .target)) (chooses (f .selector)) (left (f .left)) (right (f .right))),
+                    fit (uses 5 false 6 true true true) (λ f. BR-if-stands (at .target) (at .selector) (at .left) (at .right) (aims 5 refl (f .target)) (chooses 6 refl (f .selector)) (left (f .left)) (right (f .right))),
                     (
                       fit (uses 6 false 0 false false true) (λ f. CL-stands (at .target) (aims 6 refl (f .target))),
                       (
-                        fit (uses 6 false 6 true true true) (λ f. CL-if-stands (at .target) (at .selector) (at .left) (at .right) (aims 6 refl (f .target)) (chooses (f .selector)) (left (f .left)) (right (f .right))),
+                        fit (uses 6 false 6 true true true) (λ f. CL-if-stands (at .target) (at .selector) (at .left) (at .right) (aims 6 refl (f .target)) (chooses 6 refl (f .selector)) (left (f .left)) (right (f .right))),
                         (
                           fit (uses 7 false 0 false false false) (λ f. RT-stands),
                           (

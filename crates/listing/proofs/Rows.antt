@@ -12,14 +12,15 @@ use Rattle.numbers.specs.Bytes.{ascii}
 use Rattle.numbers.specs.Tests.{eqList, numbered}
 use Rattle.program.specs.Names.{Name, letter, digit, wordCharacter, twoCharacters, userName, paperVariable, reserved, mnemonics, variableNames}
 use Rattle.program.specs.Variables.{inRange, literals}
-use Rattle.program.specs.Statements.{Value, Literal, Variable, Condition, Always, Compare, Statement, Set, SetWith, IC, DC, BR, CL, H, Hold, OE, Disarm, MA, MR, SL, PR}
+use Rattle.program.specs.Statements.{Value, Literal, Variable, Condition, Always, Compare, Statement, Set, SetWith, IC, DC, BR, CL, H, Hold, OE, Disarm, MA, MR, SL, PR, Operator, Comparison}
 use Rattle.program.proofs.Keys.{eqList-refl}
 use Rattle.text.specs.Tokens.{Token}
-use Rattle.text.specs.Forms.{Label, Declared, Acts, operators, comparisons, variableName, Slot, Is, New, Target, Written, Left, Right, Start, Operator, Comparison, Parts, noParts, named, writing, onLeft, selecting, onRight, starting, put, takesWord, takesFirst, takes, fill, Form, form, forms, byForm, statement}
+use Rattle.text.specs.Forms.{Label, Declared, Acts, operatorSign, comparisonSign, variableName, Slot, Is, New, Target, Written, Left, Right, Start, Operating, Comparing, Parts, noParts, naming, writing, onLeft, operating, comparing, onRight, starting, put, word, sign, takes, fill, Form, form, forms, byForm, statement}
 use Rattle.listing.proofs.Kit.{is-true}
 use Rattle.listing.proofs.Tokens.{token}
 use Rattle.listing.proofs.Literals.{literalTokens, literal-read}
 use Rattle.listing.proofs.Values.{Sound, valueTokens, operand-read, variable-is-not}
+use Rattle.listing.proofs.Signs.{operator-meant, comparison-meant}
 
 -- The first row of a table: filled, or passed over.
 module _ (f : Form) (fs : List Form) (ts : List Token) where
@@ -45,34 +46,34 @@ module _ (ss : List Slot) (p : Parts) where
   unfolding fill takes put
   fill-start z g ts h = rw (fill, takes, put, literal-read z g ts h)
 
-  fill-new : (w : Name) (g : Bool) (ts : List Token) → T (twoCharacters w) → fill (New ∷ ss) (token w g ∷ ts) p ≡ fill ss ts (named w p)
-  unfolding fill takes takesFirst takesWord
+  fill-new : (w : Name) (g : Bool) (ts : List Token) → T (twoCharacters w) → fill (New ∷ ss) (token w g ∷ ts) p ≡ fill ss ts (naming p w)
+  unfolding fill takes put word
   fill-new w g ts h = rw (fill, is-true (twoCharacters w) h)
 
-  fill-target : (w : Name) (g : Bool) (ts : List Token) → T (userName w) → fill (Target ∷ ss) (token w g ∷ ts) p ≡ fill ss ts (named w p)
-  unfolding fill takes takesFirst takesWord
+  fill-target : (w : Name) (g : Bool) (ts : List Token) → T (userName w) → fill (Target ∷ ss) (token w g ∷ ts) p ≡ fill ss ts (naming p w)
+  unfolding fill takes put word
   fill-target w g ts h = rw (fill, is-true (userName w) h)
 
-  fill-written : (w : Name) (g : Bool) (ts : List Token) → T (variableName w) → fill (Written ∷ ss) (token w g ∷ ts) p ≡ fill ss ts (writing w p)
-  unfolding fill takes takesFirst takesWord
+  fill-written : (w : Name) (g : Bool) (ts : List Token) → T (variableName w) → fill (Written ∷ ss) (token w g ∷ ts) p ≡ fill ss ts (writing p w)
+  unfolding fill takes put word
   fill-written w g ts h = rw (fill, is-true (variableName w) h)
 
   fill-other : (w m : Name) (g : Bool) (ts : List Token) → eqList w m ≡ false → fill (Is m ∷ ss) (token w g ∷ ts) p ≡ none
-  unfolding fill takes takesFirst takesWord
+  unfolding fill takes put word
   fill-other w m g ts e = rw (fill, e)
 
   fill-is : (w : Name) (g : Bool) (ts : List Token) → fill (Is w ∷ ss) (token w g ∷ ts) p ≡ fill ss ts p
-  unfolding fill takes takesFirst takesWord
+  unfolding fill takes put word
   fill-is w g ts = rw (fill, is-true (eqList w w) (eqList-refl w))
 
-  -- A selector by its place in its table.
-  fill-operator : (w : Name) (n : ℕ) (g : Bool) (ts : List Token) → numbered operators w ≡ n → eqb n 0 ≡ false → fill (Operator ∷ ss) (token w g ∷ ts) p ≡ fill ss ts (selecting n p)
-  unfolding fill takes takesFirst takesWord
-  fill-operator w n g ts e f = rw (fill, e, f)
+  -- A sign by what it stands for.
+  fill-operator : (o : Operator) (g : Bool) (ts : List Token) → fill (Operating ∷ ss) (token (operatorSign o) g ∷ ts) p ≡ fill ss ts (operating p o)
+  unfolding fill takes put sign
+  fill-operator o g ts = rw (fill, operator-meant o)
 
-  fill-comparison : (w : Name) (n : ℕ) (g : Bool) (ts : List Token) → numbered comparisons w ≡ n → eqb n 0 ≡ false → fill (Comparison ∷ ss) (token w g ∷ ts) p ≡ fill ss ts (selecting n p)
-  unfolding fill takes takesFirst takesWord
-  fill-comparison w n g ts e f = rw (fill, e, f)
+  fill-comparison : (c : Comparison) (g : Bool) (ts : List Token) → fill (Comparing ∷ ss) (token (comparisonSign c) g ∷ ts) p ≡ fill ss ts (comparing p c)
+  unfolding fill takes put sign
+  fill-comparison c g ts = rw (fill, comparison-meant c)
 
 -- An operand left over.
 fill-over : (x : Value Name) (g : Bool) (ts : List Token) (p : Parts) → fill [] (valueTokens x g ts) p ≡ none
@@ -83,14 +84,14 @@ fill-over (Variable w) g ts p = refl
 
 -- All that the table of forms computes with.
 unfoldable pub table : Unit {0}
-unfolding statement byForm forms fill takes takesFirst takesWord eqList ascii variableName paperVariable variableNames userName twoCharacters reserved mnemonics numbered letter wordCharacter digit
+unfolding statement byForm forms fill takes put word eqList ascii variableName paperVariable variableNames userName twoCharacters reserved mnemonics numbered letter wordCharacter digit
 table = tt
 
 -- The two rows of BR and of CL, behind the mnemonic.
 abbrev jumpRows : (Name → Condition Name → Statement Name) → List Form
 jumpRows jump =
     form (Target ∷ []) (λ p. Acts (jump (p .name) Always))
-    ∷ form (Target ∷ Is (ascii ",") ∷ Left ∷ Comparison ∷ Right ∷ []) (λ p. Acts (jump (p .name) (Compare (p .left) (p .selector) (p .right))))
+    ∷ form (Target ∷ Is (ascii ",") ∷ Left ∷ Comparing ∷ Right ∷ []) (λ p. Acts (jump (p .name) (Compare (p .left) (p .comparison) (p .right))))
     ∷ []
 
 -- The row of one operand, behind the mnemonic.
@@ -159,36 +160,37 @@ module _ (act : Value Name → Statement Name) (x : Value Name) (g : Bool) (h : 
 
 written-says : (act : Name → Statement Name) (w : Name) (g : Bool) → T (variableName w) → byForm (writtenRow act ∷ []) (token w g ∷ []) ≡ some (Acts (act w))
 unfolding fill
-written-says act w g t = row-filled (writtenRow act) [] (token w g ∷ []) (writing w noParts) (fill-written [] noParts w g [] t)
+written-says act w g t = row-filled (writtenRow act) [] (token w g ∷ []) (writing noParts w) (fill-written [] noParts w g [] t)
 
 jump-says : (jump : Name → Condition Name → Statement Name) (w : Name) (g : Bool) → T (userName w) → byForm (jumpRows jump) (token w g ∷ []) ≡ some (Acts (jump w Always))
 unfolding fill
-jump-says jump w g t = row-filled _ _ (token w g ∷ []) (named w noParts) (fill-target [] noParts w g [] t)
+jump-says jump w g t = row-filled _ _ (token w g ∷ []) (naming noParts w) (fill-target [] noParts w g [] t)
 
 -- The tokens of a condition.
-abbrev pub comparedTokens : Value Name → Name → Value Name → Bool → Bool → Bool → Bool → List Token
-comparedTokens x w y g h i j = token (ascii ",") g ∷ valueTokens x h (token w i ∷ valueTokens y j [])
+abbrev pub comparedTokens : Value Name → Comparison → Value Name → Bool → Bool → Bool → Bool → List Token
+comparedTokens x c y g h i j = token (ascii ",") g ∷ valueTokens x h (token (comparisonSign c) i ∷ valueTokens y j [])
 
-compared-says : (jump : Name → Condition Name → Statement Name) (n : Name) (x : Value Name) (w : Name) (c : ℕ) (y : Value Name) (f g h i j : Bool)
-    → T (userName n) → Sound x → numbered comparisons w ≡ c → eqb c 0 ≡ false → Sound y
-    → byForm (jumpRows jump) (token n f ∷ comparedTokens x w y g h i j) ≡ some (Acts (jump n (Compare x c y)))
+compared-says : (jump : Name → Condition Name → Statement Name) (n : Name) (x : Value Name) (c : Comparison) (y : Value Name) (f g h i j : Bool)
+    → T (userName n) → Sound x → Sound y
+    → byForm (jumpRows jump) (token n f ∷ comparedTokens x c y g h i j) ≡ some (Acts (jump n (Compare x c y)))
 unfolding fill
-compared-says jump n x w c y f g h i j t p e z q =
-    let ts = comparedTokens x w y g h i j in
-    let a = named n noParts in
+compared-says jump n x c y f g h i j t p q =
+    let ts = comparedTokens x c y g h i j in
+    let a = naming noParts n in
     let b = onLeft a x in
+    let us = token (comparisonSign c) i ∷ valueTokens y j [] in
     row-passed _ _ (token n f ∷ ts) (fill-target [] noParts n f ts t)
-    ∙ row-filled _ _ (token n f ∷ ts) (onRight (selecting c b) y)
-    (fill-target (Is (ascii ",") ∷ Left ∷ Comparison ∷ Right ∷ []) noParts n f ts t
-    ∙ fill-is (Left ∷ Comparison ∷ Right ∷ []) a (ascii ",") g (valueTokens x h (token w i ∷ valueTokens y j []))
-    ∙ fill-left (Comparison ∷ Right ∷ []) a x h (token w i ∷ valueTokens y j []) p
-    ∙ fill-comparison (Right ∷ []) b w c i (valueTokens y j []) e z
-    ∙ fill-right [] (selecting c b) y j [] q)
+    ∙ row-filled _ _ (token n f ∷ ts) (onRight (comparing b c) y)
+    (fill-target (Is (ascii ",") ∷ Left ∷ Comparing ∷ Right ∷ []) noParts n f ts t
+    ∙ fill-is (Left ∷ Comparing ∷ Right ∷ []) a (ascii ",") g (valueTokens x h us)
+    ∙ fill-left (Comparing ∷ Right ∷ []) a x h us p
+    ∙ fill-comparison (Right ∷ []) b c i (valueTokens y j [])
+    ∙ fill-right [] (comparing b c) y j [] q)
 
 -- What each printed line says by its tokens.
 pub says-LB : (w : Name) (g h : Bool) → T (twoCharacters w) → statement (token (ascii "LB") g ∷ token w h ∷ []) ≡ some (Label w)
 unfolding fill
-says-LB w g h t = rows-LB g (token w h ∷ []) ∙ row-filled _ _ _ (named w noParts) (fill-new [] noParts w h [] t)
+says-LB w g h t = rows-LB g (token w h ∷ []) ∙ row-filled _ _ _ (naming noParts w) (fill-new [] noParts w h [] t)
 
 pub says-VA : (w : Name) (z : ℤ) (g h i j : Bool) → T (twoCharacters w) → T (inRange literals z)
     → statement (token (ascii "VA") g ∷ token w h ∷ token (ascii "=") i ∷ literalTokens z j []) ≡ some (Declared w z)
@@ -197,10 +199,10 @@ says-VA w z g h i j t r =
     let ts = token (ascii "=") i ∷ literalTokens z j [] in
     rows-VA g (token w h ∷ ts)
     ∙ row-passed _ _ (token w h ∷ ts) (fill-new [] noParts w h ts t)
-    ∙ row-filled _ _ (token w h ∷ ts) (starting (named w noParts) z)
+    ∙ row-filled _ _ (token w h ∷ ts) (starting (naming noParts w) z)
     (fill-new (Is (ascii "=") ∷ Start ∷ []) noParts w h ts t
-    ∙ fill-is (Start ∷ []) (named w noParts) (ascii "=") i (literalTokens z j [])
-    ∙ fill-start [] (named w noParts) z j [] r)
+    ∙ fill-is (Start ∷ []) (naming noParts w) (ascii "=") i (literalTokens z j [])
+    ∙ fill-start [] (naming noParts w) z j [] r)
 
 pub says-IC : (w : Name) (g h : Bool) → T (variableName w) → statement (token (ascii "IC") g ∷ token w h ∷ []) ≡ some (Acts (IC w))
 says-IC w g h t = rows-IC g (token w h ∷ []) ∙ written-says IC w h t
@@ -216,15 +218,14 @@ says-CL n g h t = rows-CL g (token n h ∷ []) ∙ jump-says CL n h t
 
 pub says-OE : (n : Name) (g h : Bool) → T (userName n) → statement (token (ascii "OE") g ∷ token n h ∷ []) ≡ some (Acts (OE n))
 unfolding fill
-says-OE n g h t = rows-OE g (token n h ∷ []) ∙ row-filled _ _ (token n h ∷ []) (named n noParts) (fill-target [] noParts n h [] t)
+says-OE n g h t = rows-OE g (token n h ∷ []) ∙ row-filled _ _ (token n h ∷ []) (naming noParts n) (fill-target [] noParts n h [] t)
 
-module _ (n : Name) (x : Value Name) (w : Name) (c : ℕ) (y : Value Name) (e f g h i j : Bool)
-    (t : T (userName n)) (p : Sound x) (r : numbered comparisons w ≡ c) (z : eqb c 0 ≡ false) (q : Sound y) where
-  pub says-BR-if : statement (token (ascii "BR") e ∷ token n f ∷ comparedTokens x w y g h i j) ≡ some (Acts (BR n (Compare x c y)))
-  says-BR-if = rows-BR e (token n f ∷ comparedTokens x w y g h i j) ∙ compared-says BR n x w c y f g h i j t p r z q
+module _ (n : Name) (x : Value Name) (c : Comparison) (y : Value Name) (e f g h i j : Bool) (t : T (userName n)) (p : Sound x) (q : Sound y) where
+  pub says-BR-if : statement (token (ascii "BR") e ∷ token n f ∷ comparedTokens x c y g h i j) ≡ some (Acts (BR n (Compare x c y)))
+  says-BR-if = rows-BR e (token n f ∷ comparedTokens x c y g h i j) ∙ compared-says BR n x c y f g h i j t p q
 
-  pub says-CL-if : statement (token (ascii "CL") e ∷ token n f ∷ comparedTokens x w y g h i j) ≡ some (Acts (CL n (Compare x c y)))
-  says-CL-if = rows-CL e (token n f ∷ comparedTokens x w y g h i j) ∙ compared-says CL n x w c y f g h i j t p r z q
+  pub says-CL-if : statement (token (ascii "CL") e ∷ token n f ∷ comparedTokens x c y g h i j) ≡ some (Acts (CL n (Compare x c y)))
+  says-CL-if = rows-CL e (token n f ∷ comparedTokens x c y g h i j) ∙ compared-says CL n x c y f g h i j t p q
 
 module _ (x : Value Name) (g h : Bool) (p : Sound x) where
   pub says-MA : statement (token (ascii "MA") g ∷ valueTokens x h []) ≡ some (Acts (MA x))
@@ -266,10 +267,10 @@ module _ (v : Name) (f g : Bool) (ts : List Token) (t : T (variableName v)) wher
       ∙ row-passed _ _ lead (fill-other (New ∷ []) noParts v (ascii "VA") f us (not-VA v t))
       ∙ row-passed _ _ lead (fill-other (New ∷ Is (ascii "=") ∷ Start ∷ []) noParts v (ascii "VA") f us (not-VA v t))
 
-  fill-lead : (ss : List Slot) → fill (Written ∷ Is (ascii "=") ∷ ss) lead noParts ≡ fill ss ts (writing v noParts)
+  fill-lead : (ss : List Slot) → fill (Written ∷ Is (ascii "=") ∷ ss) lead noParts ≡ fill ss ts (writing noParts v)
   fill-lead ss =
       fill-written (Is (ascii "=") ∷ ss) noParts v f (token (ascii "=") g ∷ ts) t
-      ∙ fill-is ss (writing v noParts) (ascii "=") g ts
+      ∙ fill-is ss (writing noParts v) (ascii "=") g ts
 
 pub says-set : (v : Name) (x : Value Name) (f g h : Bool) → T (variableName v) → Sound x
     → statement (token v f ∷ token (ascii "=") g ∷ valueTokens x h []) ≡ some (Acts (Set v x))
@@ -277,22 +278,22 @@ unfolding forms fill
 says-set v x f g h t p =
     let ts = valueTokens x h [] in
     not-declared v f g ts t
-    ∙ row-filled _ _ (token v f ∷ token (ascii "=") g ∷ ts) (onLeft (writing v noParts) x)
-    (fill-lead v f g ts t (Left ∷ []) ∙ fill-left [] (writing v noParts) x h [] p)
+    ∙ row-filled _ _ (token v f ∷ token (ascii "=") g ∷ ts) (onLeft (writing noParts v) x)
+    (fill-lead v f g ts t (Left ∷ []) ∙ fill-left [] (writing noParts v) x h [] p)
 
-pub says-set-with : (v : Name) (x : Value Name) (w : Name) (o : ℕ) (y : Value Name) (f g h i j : Bool)
-    → T (variableName v) → Sound x → numbered operators w ≡ o → eqb o 0 ≡ false → Sound y
-    → statement (token v f ∷ token (ascii "=") g ∷ valueTokens x h (token w i ∷ valueTokens y j [])) ≡ some (Acts (SetWith v x o y))
+pub says-set-with : (v : Name) (x : Value Name) (o : Operator) (y : Value Name) (f g h i j : Bool)
+    → T (variableName v) → Sound x → Sound y
+    → statement (token v f ∷ token (ascii "=") g ∷ valueTokens x h (token (operatorSign o) i ∷ valueTokens y j [])) ≡ some (Acts (SetWith v x o y))
 unfolding forms fill
-says-set-with v x w o y f g h i j t p e z q =
-    let us = token w i ∷ valueTokens y j [] in
+says-set-with v x o y f g h i j t p q =
+    let us = token (operatorSign o) i ∷ valueTokens y j [] in
     let ts = valueTokens x h us in
-    let a = writing v noParts in
+    let a = writing noParts v in
     let b = onLeft a x in
     not-declared v f g ts t
     ∙ row-passed _ _ (token v f ∷ token (ascii "=") g ∷ ts) (fill-lead v f g ts t (Left ∷ []) ∙ fill-left [] a x h us p)
-    ∙ row-filled _ _ (token v f ∷ token (ascii "=") g ∷ ts) (onRight (selecting o b) y)
-    (fill-lead v f g ts t (Left ∷ Operator ∷ Right ∷ [])
-    ∙ fill-left (Operator ∷ Right ∷ []) a x h us p
-    ∙ fill-operator (Right ∷ []) b w o i (valueTokens y j []) e z
-    ∙ fill-right [] (selecting o b) y j [] q)
+    ∙ row-filled _ _ (token v f ∷ token (ascii "=") g ∷ ts) (onRight (operating b o) y)
+    (fill-lead v f g ts t (Left ∷ Operating ∷ Right ∷ [])
+    ∙ fill-left (Operating ∷ Right ∷ []) a x h us p
+    ∙ fill-operator (Right ∷ []) b o i (valueTokens y j [])
+    ∙ fill-right [] (operating b o) y j [] q)

@@ -51,7 +51,7 @@ says-line l x h = record {
 -- One after the other, for each number from `from` on.
 module _ (f : ℕ → List ℕ) where
   says-each : (g : ℕ → List Line) (from n : ℕ) → ((k : ℕ) → k < from + n → Says (f k) (g k)) → Says (flatMap f (listed from n (λ k. k))) (flatMap g (listed from n (λ k. k)))
-  unfolding flatMap listed flatMap
+  unfolding flatMap listed
   says-each g from zero h = says-none
   says-each g from (suc n) h =
       says-both (f from) (flatMap f (listed (suc from) n (λ k. k))) (g from) (flatMap g (listed (suc from) n (λ k. k)))

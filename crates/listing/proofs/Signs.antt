@@ -1,17 +1,19 @@
--- The signs between the words of a line: each is one token, and has its number back from its table.
+-- The signs between the words of a line: each is one token, and stands for what it is the sign of.
 -- Assumes nothing.
 use mathlib.Core.Path.{_≡_, refl}
 use mathlib.Core.Bool.{true, false, _&&_}
 use mathlib.Core.List.{List, [], _∷_, _++_}
-use Prim.Native.Nat.{ℕ, zero, suc, _-_, _≤_, _<_}
+use mathlib.Core.Option.{some}
+use Prim.Native.Nat.{ℕ, _≤_}
 use native.Mathlib.Omega.{arith}
 use lib.Dec.{T, eqb}
 use lib.ListN.{length, getD}
 use Rattle.numbers.specs.Bytes.{ascii}
-use Rattle.numbers.specs.Tests.{allOf, numbered, eqList}
+use Rattle.numbers.specs.Tests.{allOf, eqList}
 use Rattle.program.specs.Names.{Name, letter, digit, wordCharacter}
+use Rattle.program.specs.Statements.{Operator, Plus, Minus, Times, Divided, BitAnd, BitOr, BitXor, Comparison, Equal, Unequal, Less, AtMost, Greater, AtLeast}
 use Rattle.text.specs.Tokens.{tokens, joins, printable}
-use Rattle.text.specs.Forms.{operators, comparisons}
+use Rattle.text.specs.Forms.{operatorSign, comparisonSign, meant, operatorMeant, comparisonMeant}
 use Rattle.listing.proofs.Tokens.{token, follows, Stops, fine, tokens-sign, tokens-pair}
 use Rattle.listing.proofs.Values.{Starts}
 
@@ -29,7 +31,7 @@ single c s j w f = record { cuts = λ rest h. tokens-sign c rest s (j (getD rest
 
 -- All that a sign computes with.
 signs : Unit {0}
-unfolding ascii allOf printable joins wordCharacter letter digit operators comparisons numbered eqList
+unfolding ascii allOf printable joins wordCharacter letter digit operatorSign comparisonSign meant operatorMeant comparisonMeant eqList
 signs = tt
 
 less : Sign (ascii "<")
@@ -65,50 +67,41 @@ pub comma : Sign (ascii ",")
 unfolding signs
 comma = single 44 refl (λ d. refl) refl tt
 
--- Each operator and each comparison is a sign.
-pub operator-sign : (o : ℕ) → 1 ≤ o → o ≤ 7 → Sign (getD operators (o - 1) [])
+-- Each operator and each comparison has a sign, which stands for it.
+pub operator-sign : (o : Operator) → Sign (operatorSign o)
 unfolding signs
-operator-sign zero h l = absurd (omega arith)
-operator-sign (suc zero) h l = single 43 refl (λ d. refl) refl tt
-operator-sign (suc (suc zero)) h l = single 45 refl (λ d. refl) refl tt
-operator-sign (suc (suc (suc zero))) h l = single 42 refl (λ d. refl) refl tt
-operator-sign (suc (suc (suc (suc zero)))) h l = single 47 refl (λ d. refl) refl tt
-operator-sign (suc (suc (suc (suc (suc zero))))) h l = single 38 refl (λ d. refl) refl tt
-operator-sign (suc (suc (suc (suc (suc (suc zero)))))) h l = single 124 refl (λ d. refl) refl tt
-operator-sign (suc (suc (suc (suc (suc (suc (suc zero))))))) h l = single 94 refl (λ d. refl) refl tt
-operator-sign (suc (suc (suc (suc (suc (suc (suc (suc o)))))))) h l = absurd (omega arith)
+operator-sign Plus = single 43 refl (λ d. refl) refl tt
+operator-sign Minus = single 45 refl (λ d. refl) refl tt
+operator-sign Times = single 42 refl (λ d. refl) refl tt
+operator-sign Divided = single 47 refl (λ d. refl) refl tt
+operator-sign BitAnd = single 38 refl (λ d. refl) refl tt
+operator-sign BitOr = single 124 refl (λ d. refl) refl tt
+operator-sign BitXor = single 94 refl (λ d. refl) refl tt
 
-pub comparison-sign : (c : ℕ) → 1 ≤ c → c ≤ 6 → Sign (getD comparisons (c - 1) [])
+pub comparison-sign : (c : Comparison) → Sign (comparisonSign c)
 unfolding signs
-comparison-sign zero h l = absurd (omega arith)
-comparison-sign (suc zero) h l = equals
-comparison-sign (suc (suc zero)) h l = unequal
-comparison-sign (suc (suc (suc zero))) h l = less
-comparison-sign (suc (suc (suc (suc zero)))) h l = most
-comparison-sign (suc (suc (suc (suc (suc zero))))) h l = more
-comparison-sign (suc (suc (suc (suc (suc (suc zero)))))) h l = least
-comparison-sign (suc (suc (suc (suc (suc (suc (suc c))))))) h l = absurd (omega arith)
+comparison-sign Equal = equals
+comparison-sign Unequal = unequal
+comparison-sign Less = less
+comparison-sign AtMost = most
+comparison-sign Greater = more
+comparison-sign AtLeast = least
 
--- Its number is its place in the table.
-pub operator-number : (o : ℕ) → 1 ≤ o → o ≤ 7 → numbered operators (getD operators (o - 1) []) ≡ o
+pub operator-meant : (o : Operator) → operatorMeant (operatorSign o) ≡ some o
 unfolding signs
-operator-number zero h l = absurd (omega arith)
-operator-number (suc zero) h l = refl
-operator-number (suc (suc zero)) h l = refl
-operator-number (suc (suc (suc zero))) h l = refl
-operator-number (suc (suc (suc (suc zero)))) h l = refl
-operator-number (suc (suc (suc (suc (suc zero))))) h l = refl
-operator-number (suc (suc (suc (suc (suc (suc zero)))))) h l = refl
-operator-number (suc (suc (suc (suc (suc (suc (suc zero))))))) h l = refl
-operator-number (suc (suc (suc (suc (suc (suc (suc (suc o)))))))) h l = absurd (omega arith)
+operator-meant Plus = refl
+operator-meant Minus = refl
+operator-meant Times = refl
+operator-meant Divided = refl
+operator-meant BitAnd = refl
+operator-meant BitOr = refl
+operator-meant BitXor = refl
 
-pub comparison-number : (c : ℕ) → 1 ≤ c → c ≤ 6 → numbered comparisons (getD comparisons (c - 1) []) ≡ c
+pub comparison-meant : (c : Comparison) → comparisonMeant (comparisonSign c) ≡ some c
 unfolding signs
-comparison-number zero h l = absurd (omega arith)
-comparison-number (suc zero) h l = refl
-comparison-number (suc (suc zero)) h l = refl
-comparison-number (suc (suc (suc zero))) h l = refl
-comparison-number (suc (suc (suc (suc zero)))) h l = refl
-comparison-number (suc (suc (suc (suc (suc zero))))) h l = refl
-comparison-number (suc (suc (suc (suc (suc (suc zero)))))) h l = refl
-comparison-number (suc (suc (suc (suc (suc (suc (suc c))))))) h l = absurd (omega arith)
+comparison-meant Equal = refl
+comparison-meant Unequal = refl
+comparison-meant Less = refl
+comparison-meant AtMost = refl
+comparison-meant Greater = refl
+comparison-meant AtLeast = refl

@@ -14,15 +14,15 @@ use Rattle.numbers.specs.Bytes.{ascii}
 use Rattle.numbers.specs.Tests.{allOf, anyOf}
 use Rattle.program.specs.Names.{Name, letter, digit, wordCharacter, reserved, userName}
 use Rattle.program.specs.Variables.{inRange, literals}
-use Rattle.program.specs.Statements.{Value, Literal, Variable, Condition, Always, Compare, Statement, Set, SetWith, IC, DC, BR, CL, RT, E, H, Hold, OE, Disarm, MA, MR, SL, PR, operands, compared}
+use Rattle.program.specs.Statements.{Value, Literal, Variable, Condition, Always, Compare, Statement, Set, SetWith, IC, DC, BR, CL, RT, E, H, Hold, OE, Disarm, MA, MR, SL, PR, operands, compared, Operator}
 use Rattle.text.specs.Tokens.{Token, tokens, joins, ontoFirstToken, printable, uncommented}
-use Rattle.text.specs.Forms.{Line, Label, Declared, Acts, operators, comparisons, variableName, statement, reading}
+use Rattle.text.specs.Forms.{Line, Label, Declared, Acts, operatorSign, comparisonSign, variableName, statement, reading}
 use Rattle.text.specs.Faults.{longLine, badForm, tooBig, bigValue, bigIn, bigLiteral, declares, reservedName, heard}
 use Rattle.listing.specs.Listing.{plain}
 use Rattle.listing.proofs.Kit.{is-true, all-append}
 use Rattle.listing.proofs.Tokens.{token, follows, Stops, fine, fine-printable, fine-uncommented}
 use Rattle.listing.proofs.Values.{spelt, spelling, Spelt, user-two, user-free, user-spelt, variable-spelt, tokens-name, name-fine, valueTold, Sound, valueTokens, tokens-value, value-fine, value-length, Starts, value-starts}
-use Rattle.listing.proofs.Signs.{Sign, equals, comma, operator-sign, comparison-sign, operator-number, comparison-number}
+use Rattle.listing.proofs.Signs.{Sign, equals, comma, operator-sign, comparison-sign}
 use Rattle.listing.proofs.Rows.{table, says-LB, says-VA, says-IC, says-DC, says-BR, says-CL, says-OE, says-BR-if, says-CL-if, says-MA, says-MR, says-SL, says-PR, says-hold, says-set, says-set-with}
 
 -- A part of a line, up to its end: its tokens, its bytes, and at most how many.
@@ -125,16 +125,16 @@ reads-set v x t h =
     printed (v ++ (ascii "=" ++ valueTold x)) (Acts (Set v x)) (part-name p v (variable-spelt v t) (equals .stops (valueTold x))) (lit≤ tt)
     (says-set v x _ _ false t h)
 
-pub reads-set-with : (v : Name) (x : Value Name) (o : ℕ) (y : Value Name) → T (variableName v) → Sound x → 1 ≤ o → o ≤ 7 → Sound y
-    → Printed (v ++ (ascii "=" ++ (valueTold x ++ (getD operators (o - 1) [] ++ valueTold y)))) (Acts (SetWith v x o y))
-reads-set-with v x o y t h a b k =
-    let w : Name = getD operators (o - 1) [] in
-    let g = operator-sign o a b in
+pub reads-set-with : (v : Name) (x : Value Name) (o : Operator) (y : Value Name) → T (variableName v) → Sound x → Sound y
+    → Printed (v ++ (ascii "=" ++ (valueTold x ++ (operatorSign o ++ valueTold y)))) (Acts (SetWith v x o y))
+reads-set-with v x o y t h k =
+    let w : Name = operatorSign o in
+    let g = operator-sign o in
     let p = part-value (part-sign (value-last y k) w g (starts-last y k)) x h (g .stops (valueTold y)) in
     let q = part-sign p (ascii "=") equals (value-starts x (w ++ valueTold y) h) in
     printed (v ++ (ascii "=" ++ (valueTold x ++ (w ++ valueTold y)))) (Acts (SetWith v x o y))
     (part-name q v (variable-spelt v t) (equals .stops (valueTold x ++ (w ++ valueTold y)))) (lit≤ tt)
-    (says-set-with v x w o y _ _ _ _ false t h (operator-number o a b) (ne-eqb o 0 (λ e. omega arith)) k)
+    (says-set-with v x o y _ _ _ _ false t h k)
 
 pub reads-IC : (v : Name) → T (variableName v) → Printed (ascii "IC " ++ v) (Acts (IC v))
 unfolding letters
@@ -151,11 +151,11 @@ reads-DC v t =
 -- A condition as it is printed, and one that a text can have.
 abbrev pub conditionTold : Condition Name → List ℕ
 conditionTold Always = []
-conditionTold (Compare x c y) = ascii "," ++ (valueTold x ++ (getD comparisons (c - 1) [] ++ valueTold y))
+conditionTold (Compare x c y) = ascii "," ++ (valueTold x ++ (comparisonSign c ++ valueTold y))
 
 abbrev pub Fair : Condition Name → Type 0
 Fair Always = Unit {0}
-Fair (Compare x c y) = Sound x × ((1 ≤ c) × (c ≤ 6)) × Sound y
+Fair (Compare x c y) = Sound x × Sound y
 
 pub reads-BR : (n : Name) (c : Condition Name) → T (userName n) → Fair c → Printed (ascii "BR " ++ (n ++ conditionTold c)) (Acts (BR n c))
 unfolding letters
@@ -163,14 +163,13 @@ reads-BR n Always t f =
     printed (ascii "BR " ++ (n ++ [])) (Acts (BR n Always)) (part-mnemonic (ascii "BR") tt (part-name part-end n (user-spelt n t) refl)) (lit≤ tt)
     (says-BR n false false t)
 reads-BR n (Compare x c y) t f =
-    let w : Name = getD comparisons (c - 1) [] in
-    let g = comparison-sign c (f .1 .0) (f .1 .1) in
-    let p = part-value (part-sign (value-last y (f .2)) w g (starts-last y (f .2))) x (f .0) (g .stops (valueTold y)) in
+    let w : Name = comparisonSign c in
+    let g = comparison-sign c in
+    let p = part-value (part-sign (value-last y (f .1)) w g (starts-last y (f .1))) x (f .0) (g .stops (valueTold y)) in
     let q = part-sign p (ascii ",") comma (value-starts x (w ++ valueTold y) (f .0)) in
     let r = part-name q n (user-spelt n t) (comma .stops (valueTold x ++ (w ++ valueTold y))) in
-    let l = f .1 .0 in
     printed (ascii "BR " ++ (n ++ conditionTold (Compare x c y))) (Acts (BR n (Compare x c y))) (part-mnemonic (ascii "BR") tt r) (lit≤ tt)
-    (says-BR-if n x w c y false _ _ _ _ false t (f .0) (comparison-number c (f .1 .0) (f .1 .1)) (ne-eqb c 0 (λ e. omega arith)) (f .2))
+    (says-BR-if n x c y false _ _ _ _ false t (f .0) (f .1))
 
 pub reads-CL : (n : Name) (c : Condition Name) → T (userName n) → Fair c → Printed (ascii "CL " ++ (n ++ conditionTold c)) (Acts (CL n c))
 unfolding letters
@@ -178,14 +177,13 @@ reads-CL n Always t f =
     printed (ascii "CL " ++ (n ++ [])) (Acts (CL n Always)) (part-mnemonic (ascii "CL") tt (part-name part-end n (user-spelt n t) refl)) (lit≤ tt)
     (says-CL n false false t)
 reads-CL n (Compare x c y) t f =
-    let w : Name = getD comparisons (c - 1) [] in
-    let g = comparison-sign c (f .1 .0) (f .1 .1) in
-    let p = part-value (part-sign (value-last y (f .2)) w g (starts-last y (f .2))) x (f .0) (g .stops (valueTold y)) in
+    let w : Name = comparisonSign c in
+    let g = comparison-sign c in
+    let p = part-value (part-sign (value-last y (f .1)) w g (starts-last y (f .1))) x (f .0) (g .stops (valueTold y)) in
     let q = part-sign p (ascii ",") comma (value-starts x (w ++ valueTold y) (f .0)) in
     let r = part-name q n (user-spelt n t) (comma .stops (valueTold x ++ (w ++ valueTold y))) in
-    let l = f .1 .0 in
     printed (ascii "CL " ++ (n ++ conditionTold (Compare x c y))) (Acts (CL n (Compare x c y))) (part-mnemonic (ascii "CL") tt r) (lit≤ tt)
-    (says-CL-if n x w c y false _ _ _ _ false t (f .0) (comparison-number c (f .1 .0) (f .1 .1)) (ne-eqb c 0 (λ e. omega arith)) (f .2))
+    (says-CL-if n x c y false _ _ _ _ false t (f .0) (f .1))
 
 pub reads-OE : (n : Name) → T (userName n) → Printed (ascii "OE " ++ n) (Acts (OE n))
 unfolding letters
@@ -235,7 +233,7 @@ reads-disarm = record { kind = tt; size = lit≤ tt; reads = refl }
 -- A statement as it is printed, and one that a text can have.
 unfoldable pub told : Statement Name → List ℕ
 told (Set v x) = v ++ (ascii "=" ++ valueTold x)
-told (SetWith v x o y) = v ++ (ascii "=" ++ (valueTold x ++ (getD operators (o - 1) [] ++ valueTold y)))
+told (SetWith v x o y) = v ++ (ascii "=" ++ (valueTold x ++ (operatorSign o ++ valueTold y)))
 told (IC v) = ascii "IC " ++ v
 told (DC v) = ascii "DC " ++ v
 told (BR n c) = ascii "BR " ++ (n ++ conditionTold c)
@@ -253,7 +251,7 @@ told (PR x) = ascii "PR " ++ valueTold x
 
 abbrev pub Sayable : Statement Name → Type 0
 Sayable (Set v x) = T (variableName v) × Sound x
-Sayable (SetWith v x o y) = T (variableName v) × Sound x × ((1 ≤ o) × (o ≤ 7)) × Sound y
+Sayable (SetWith v x o y) = T (variableName v) × Sound x × Sound y
 Sayable (IC v) = T (variableName v)
 Sayable (DC v) = T (variableName v)
 Sayable (BR n c) = T (userName n) × Fair c
@@ -273,7 +271,7 @@ Sayable (PR x) = Sound x
 pub reads-statement : (a : Statement Name) → Sayable a → Printed (told a) (Acts a)
 unfolding told
 reads-statement (Set v x) h = reads-set v x (h .0) (h .1)
-reads-statement (SetWith v x o y) h = reads-set-with v x o y (h .0) (h .1) (h .2 .0) (h .2 .1) (h .3)
+reads-statement (SetWith v x o y) h = reads-set-with v x o y (h .0) (h .1) (h .2)
 reads-statement (IC v) h = reads-IC v h
 reads-statement (DC v) h = reads-DC v h
 reads-statement (BR n c) h = reads-BR n c (h .0) (h .1)
@@ -306,12 +304,12 @@ two-small x y h k = rw (sound-small x h, sound-small y k)
 compared-small : (c : Condition Name) → Fair c → anyOf bigValue (compared c) ≡ false
 unfolding anyOf compared
 compared-small Always f = refl
-compared-small (Compare x c y) f = two-small x y (f .0) (f .2)
+compared-small (Compare x c y) f = two-small x y (f .0) (f .1)
 
 small : (a : Statement Name) → Sayable a → anyOf bigValue (operands a) ≡ false
 unfolding anyOf operands
 small (Set v x) h = one-small x (h .1)
-small (SetWith v x o y) h = two-small x y (h .1) (h .3)
+small (SetWith v x o y) h = two-small x y (h .1) (h .2)
 small (IC v) h = refl
 small (DC v) h = refl
 small (BR n c) h = compared-small c (h .1)

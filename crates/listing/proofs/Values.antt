@@ -17,7 +17,7 @@ use Rattle.program.specs.Variables.{inRange, literals}
 use Rattle.program.specs.Statements.{Value, Literal, Variable}
 use Rattle.program.proofs.Keys.{both, both-of, either, eqList-eq}
 use Rattle.text.specs.Tokens.{Token, tokens}
-use Rattle.text.specs.Forms.{digits, literal, variableName, variable, operand, take}
+use Rattle.text.specs.Forms.{digits, literal, variableName, variable, operand, took, put, word}
 use Rattle.listing.specs.Listing.{plain}
 use Rattle.listing.proofs.Kit.{is-true, is-false, is-no, left-of, all-then, numbered-all}
 use Rattle.listing.proofs.Tokens.{token, follows, Stops, fine, tokens-word, word-is-not, word-fine}
@@ -113,10 +113,10 @@ unfolding literal digits ascii eqList variableName userName twoCharacters paperV
 no-literal w g [] t = rw (variable-spelt w t .no-digits)
 no-literal w g (u ∷ ts) t = rw (variable-spelt w t .no-digits, variable-is-not w (ascii "-") t tt)
 
-pub operand-read : (x : Value Name) (g : Bool) (ts : List Token) → Sound x → operand (valueTokens x g ts) ≡ take x ts
-unfolding operand variable
+pub operand-read : (x : Value Name) (g : Bool) (ts : List Token) → Sound x → operand (valueTokens x g ts) ≡ took x ts
+unfolding operand variable put word
 operand-read (Literal z) g ts h = rw (operand, literal-read z g ts h)
-operand-read (Variable w) g ts h = rw (operand, no-literal w g ts h, is-true (variableName w) h)
+operand-read (Variable w) g ts h = rw (operand, no-literal w g ts h, put, is-true (variableName w) h)
 
 pub tokens-value : (x : Value Name) (rest : List ℕ) → Sound x → Stops rest → tokens (valueTold x ++ rest) ≡ valueTokens x (follows rest) (tokens rest)
 tokens-value (Literal z) rest h e = tokens-literal z rest e

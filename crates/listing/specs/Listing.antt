@@ -12,7 +12,7 @@ use Rattle.numbers.specs.Tests.{firstBelow, listed}
 use Rattle.program.specs.Names.{Name, variableNames}
 use Rattle.program.specs.Statements.{Value, Literal, Variable, Condition, Always, Compare, Statement, Set, SetWith, IC, DC, BR, CL, RT, E, H, Hold, OE, Disarm, MA, MR, SL, PR}
 use Rattle.program.specs.Cells.{statementOf}
-use Rattle.text.specs.Forms.{operators, comparisons}
+use Rattle.text.specs.Forms.{operatorSign, comparisonSign}
 use Rattle.image.specs.Layout.{cellCount, labelCount, variableCount, cellAt, labelPlace, labelTarget, variablePlace, startValue, nameAt}
 
 -- The number n in w decimal digits.
@@ -42,12 +42,12 @@ valueText s (Variable v) = variableName s v
 
 unfoldable pub conditionText : List ℕ → Condition ℕ → List ℕ
 conditionText s Always = []
-conditionText s (Compare x c y) = ascii "," ++ (valueText s x ++ (getD comparisons (c - 1) [] ++ valueText s y))
+conditionText s (Compare x c y) = ascii "," ++ (valueText s x ++ (comparisonSign c ++ valueText s y))
 
 -- One statement: one space after a mnemonic with operands, no other.
 unfoldable pub statementText : List ℕ → Statement ℕ → List ℕ
 statementText s (Set v x) = variableName s v ++ (ascii "=" ++ valueText s x)
-statementText s (SetWith v x o y) = variableName s v ++ (ascii "=" ++ (valueText s x ++ (getD operators (o - 1) [] ++ valueText s y)))
+statementText s (SetWith v x o y) = variableName s v ++ (ascii "=" ++ (valueText s x ++ (operatorSign o ++ valueText s y)))
 statementText s (IC v) = ascii "IC " ++ variableName s v
 statementText s (DC v) = ascii "DC " ++ variableName s v
 statementText s (BR n c) = ascii "BR " ++ (labelName s n ++ conditionText s c)

@@ -1,15 +1,14 @@
 -- The ranges by tests of the number: what the code asks, and what the layers above ask of a variable whose number is not known.
 -- Assumes nothing.
-use mathlib.Core.Path.{_≡_, refl, sym, subst, _∙_}
+use mathlib.Core.Path.{_≡_, refl, sym, _∙_}
 use mathlib.Core.Bool.{Bool, true, false, cond}
-use mathlib.Core.Logic.{⊎-elim}
-use Prim.Native.Nat.{ℕ, zero, suc, _+_, _≤_, _<_}
-use native.Mathlib.Nat.{eq-or-lt-of-le}
+use Prim.Native.Nat.{ℕ, _≤_, _<_}
 use native.Mathlib.Omega.{arith}
 use borrow.Author.Tests.{lt-ltb, le-ltb, ltb-true, ltb-false, ne-eqb}
 use lib.Dec.{eqb, ltb}
 use lib.IntN.{ℤ, pos, _+ℤ_, _-ℤ_}
 use lib.ListN.{List·getD-eq-default}
+use Rattle.numbers.proofs.Lists.{EachFrom, each-from}
 use Rattle.program.specs.declared.Range.{Range}
 use Rattle.program.specs.Variables.{fromTo, literals, byNumber, userVariable, rangeOf}
 
@@ -39,16 +38,6 @@ tested-user v vi vm h =
       le-ltb v 20 (omega arith),
       ne-eqb v 20 (λ e. omega arith),
     )
-
--- What holds of n numbers from k on, one by one, holds of each.
-abbrev EachFrom : (ℕ → Type 0) → ℕ → ℕ → Type 0
-EachFrom P k zero = Unit {0}
-EachFrom P k (suc n) = P k × EachFrom P (suc k) n
-
-each-from : (P : ℕ → Type 0) (k n : ℕ) → EachFrom P k n → (v : ℕ) → k ≤ v → v < k + n → P v
-each-from P k zero t v low high = absurd (omega arith)
-each-from P k (suc n) t v low high =
-    ⊎-elim (λ e. subst P e (t .0)) (λ l. each-from P (suc k) n (t .1) v l (omega arith)) (eq-or-lt-of-le low)
 
 -- Of the numbers below 21 the table says just what the tests say.
 paper-tested : (vi vm : ℤ) → EachFrom (λ (v : ℕ). rangeOf v vi vm ≡ tested v vi vm) 0 21

@@ -8,11 +8,11 @@ use Rattle.listing.proofs.Keys.{paper-key, record-key}
 use Rattle.listing.proofs.variable_key.Statement.{statement}
 use Rattle.listing.proofs.variable_key.Tie as tie
 
-variable-key-requires : tie.Need-variable-key-requires
-variable-key-requires c κs = search needs
+key-requires : tie.Need-key-requires
+key-requires c κs = search needs
 
 returns : tie.Need-returns
-returns c = c .variable-key .ensures ∙ paper-key _ _ (c .before .if1 .taken)
+returns c = c .key .ensures ∙ paper-key _ _ (c .before .if1 .taken)
 
 cell-count-requires : tie.Need-cell-count-requires
 cell-count-requires c κs = search needs
@@ -41,7 +41,7 @@ pub variable-key-spec : {M : Type 1} → statement M
 variable-key-spec =
     tie.close
     (tie.spec
-    variable-key-requires
+    key-requires
     returns
     cell-count-requires
     label-count-requires

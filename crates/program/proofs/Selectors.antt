@@ -1,0 +1,42 @@
+-- Operators and comparisons have their numbers back, and the numbers what they stand for.
+-- Assumes nothing.
+use mathlib.Core.Path.{_≡_, refl}
+use Prim.Native.Nat.{ℕ, _≤_}
+use native.Mathlib.Omega.{arith}
+use Rattle.numbers.proofs.Lists.{EachFrom, each-from}
+use Rattle.program.specs.Statements.{Operator, Plus, Minus, Times, Divided, BitAnd, BitOr, BitXor, Comparison, Equal, Unequal, Less, AtMost, Greater, AtLeast}
+use Rattle.program.specs.Cells.{operatorNumber, comparisonNumber, operatorOf, comparisonOf}
+
+-- Image 6: the numbers from 1 on that a good cell has.
+seven : EachFrom (λ (n : ℕ). operatorNumber (operatorOf n) ≡ n) 1 7
+unfolding operatorNumber operatorOf
+seven = (refl, (refl, (refl, (refl, (refl, (refl, (refl, tt)))))))
+
+pub operator-number : (n : ℕ) → 1 ≤ n → n ≤ 7 → operatorNumber (operatorOf n) ≡ n
+operator-number n low high = each-from (λ (k : ℕ). operatorNumber (operatorOf k) ≡ k) 1 7 seven n low (omega arith)
+
+six : EachFrom (λ (n : ℕ). comparisonNumber (comparisonOf n) ≡ n) 1 6
+unfolding comparisonNumber comparisonOf
+six = (refl, (refl, (refl, (refl, (refl, (refl, tt))))))
+
+pub comparison-number : (n : ℕ) → 1 ≤ n → n ≤ 6 → comparisonNumber (comparisonOf n) ≡ n
+comparison-number n low high = each-from (λ (k : ℕ). comparisonNumber (comparisonOf k) ≡ k) 1 6 six n low (omega arith)
+
+pub operator-back : (o : Operator) → operatorOf (operatorNumber o) ≡ o
+unfolding operatorNumber operatorOf
+operator-back Plus = refl
+operator-back Minus = refl
+operator-back Times = refl
+operator-back Divided = refl
+operator-back BitAnd = refl
+operator-back BitOr = refl
+operator-back BitXor = refl
+
+pub comparison-back : (c : Comparison) → comparisonOf (comparisonNumber c) ≡ c
+unfolding comparisonNumber comparisonOf
+comparison-back Equal = refl
+comparison-back Unequal = refl
+comparison-back Less = refl
+comparison-back AtMost = refl
+comparison-back Greater = refl
+comparison-back AtLeast = refl
