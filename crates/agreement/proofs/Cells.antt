@@ -14,11 +14,12 @@ use Rattle.program.specs.Variables.{literals, present, readOnly}
 use Rattle.program.specs.Cells.{cell, cellOf, jumpOf, operandOf, noTarget}
 use Rattle.program.specs.Statements.{Value, Literal, Variable, Condition, Always, Compare, Statement, Set, SetWith, IC, DC, BR, CL, RT, E, H, Hold, OE, Disarm, MA, MR, SL, PR}
 use Rattle.program.specs.declared.Operand.the-variants as O
+use Rattle.program.proofs.Selectors.{operator-byte, comparison-byte}
 use Rattle.text.specs.Forms.{Line, Acts}
 use Rattle.text.specs.Faults.{howMany, makesCell, makesVariable, placeOf, numberOf}
 use Rattle.image.specs.Layout.{cellBytes, cellAt}
 use Rattle.image.proofs.Back.{GoodOperand, GoodCell, cell-back}
-use Rattle.image.proofs.Accepted.{Writes, Reads, Chooses, Compares, Acceptable}
+use Rattle.image.proofs.Accepted.{Writes, Reads, Compares, Acceptable}
 use Rattle.translation.specs.Images.{cellPart, labelPart, variablePart, imageOf}
 use Rattle.translation.specs.Places.{lineAt}
 use Rattle.translation.proofs.Parts.{parts-length, cells-sized}
@@ -50,10 +51,6 @@ module _ {R : Type 0} (place number : R → ℕ) (s : List ℕ) (variables : ℕ
   good-operand (Literal z) h = within32 (literals .lowest) (literals .highest) z refl refl h
   good-operand (Variable v) h = let l = present-below variables (number v) few h in omega arith
 
-  good-selector : (last n : ℕ) → last < 256 → Chooses place number s variables last n → n < 256
-  unfolding Chooses
-  good-selector last n l h = let m = leb-true n last (both-true (leb 1 n) (leb n last) h .1) in omega arith
-
   good-jump : (o : ℕ) (n : R) (c : Condition R) → o < 256 → Compares place number s variables c → GoodCell (jumpOf place number o n c)
   unfolding Compares jumpOf GoodOperand
   good-jump o n Always l h = record { operation = l; written = lit< tt; selector = lit< tt; left = tt; right = tt; target = near n }
@@ -61,9 +58,9 @@ module _ {R : Type 0} (place number : R → ℕ) (s : List ℕ) (variables : ℕ
       record {
         operation = l;
         written = lit< tt;
-        selector = good-selector 6 c (lit< tt) (h .1);
+        selector = comparison-byte c;
         left = good-operand x (h .0);
-        right = good-operand y (h .2);
+        right = good-operand y (h .1);
         target = near n;
       }
 
@@ -88,9 +85,9 @@ module _ {R : Type 0} (place number : R → ℕ) (s : List ℕ) (variables : ℕ
       record {
         operation = lit< tt;
         written = good-written v (h .0);
-        selector = good-selector 7 o (lit< tt) (h .2);
+        selector = operator-byte o;
         left = good-operand x (h .1);
-        right = good-operand y (h .3);
+        right = good-operand y (h .2);
         target = lit< tt;
       }
   good-cell (IC v) h = good-write 3 v (lit< tt) h

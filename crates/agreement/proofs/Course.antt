@@ -4,7 +4,9 @@ use mathlib.Core.Path.{_≡_, ap, _∙_}
 use mathlib.Core.Bool.{true}
 use mathlib.Core.List.{List}
 use Prim.Native.Nat.{ℕ, _<_}
-use Rattle.program.specs.Cells.{same, statementOf}
+use native.Mathlib.Omega.{arith}
+use Rattle.program.specs.Names.{Name}
+use Rattle.program.specs.Cells.{noTarget, same, statementOf}
 use Rattle.text.specs.Forms.{Line}
 use Rattle.text.specs.Faults.{said, howMany, makesCell, placeOf, numberOf}
 use Rattle.image.specs.Layout.{cellCount, cellAt, startValues}
@@ -20,9 +22,8 @@ use Rattle.translation.specs.Places.{lineAt, starts}
 use Rattle.agreement.proofs.Meaning.{effect-cell}
 use Rattle.agreement.proofs.Runs.{run-same, visit-same}
 use Rattle.agreement.proofs.Sound.{Fine, fine}
-use Rattle.agreement.proofs.Words.{selected}
-use Rattle.agreement.proofs.Records.{cell-count, start-values}
-use Rattle.agreement.proofs.Cells.{cell-at, line-parsed}
+use Rattle.agreement.proofs.Records.{place-most, cell-count, start-values}
+use Rattle.agreement.proofs.Cells.{cell-at}
 
 -- What the next cell of an image does, what the next line of a text does.
 abbrev pub byCell : List ℕ → Machine → Effect
@@ -32,12 +33,16 @@ abbrev pub byLine : List Line → Machine → Effect
 byLine xs m = effect (placeOf xs) (numberOf xs) (m .variables) (m .kept) (m .hold) (lineAt xs (m .next))
 
 module _ (xs : List Line) (f : Fine xs) where
+  -- no label has the place that stands for none
+  place-far : (w : Name) → placeOf xs w ≡ noTarget → ⊥
+  unfolding noTarget
+  place-far w e = let h = f .cells in omega (arith, place-most xs w)
+
   -- a cell does what its line does
   pub same-act : (m : Machine) → m .next < howMany makesCell xs → byCell (imageOf xs) m ≡ byLine xs m
   same-act m h =
       ap (λ c. effect same same (m .variables) (m .kept) (m .hold) (statementOf c)) (cell-at xs f (m .next) h)
-      ∙ effect-cell (placeOf xs) (numberOf xs) (m .variables) (m .kept) (m .hold) (lineAt xs (m .next))
-      (selected (lineAt xs (m .next)) (line-parsed xs f (m .next) h))
+      ∙ effect-cell (placeOf xs) (numberOf xs) (m .variables) (m .kept) (m .hold) place-far (lineAt xs (m .next))
 
   pub same-run : (left t : ℕ) (es : List Event) (m : Machine)
       → runFrom (byCell (imageOf xs)) (cellCount (imageOf xs)) left t es m ≡ runFrom (byLine xs) (howMany makesCell xs) left t es m

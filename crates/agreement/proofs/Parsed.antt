@@ -1,25 +1,18 @@
--- What a line says by one of the forms is well made: its names are of the right kind, its operator or comparison has a number of theirs.
+-- What a line says by one of the forms is well made: its names are of the right kind.
 -- Assumes nothing.
 use mathlib.Core.Path.{_≡_, refl, subst}
 use mathlib.Core.Bool.{Bool, true, false, cond}
 use mathlib.Core.List.{List, [], _∷_}
 use mathlib.Core.Option.{Option, none, some}
-use Prim.Native.Nat.{ℕ, _≤_}
+use Prim.Native.Nat.{ℕ}
 use native.Mathlib.Omega.{arith}
-use borrow.Author.Tests.{eqb-false}
-use lib.Dec.{T, eqb}
+use lib.Dec.{T}
 use lib.IntN.{ℤ}
-use lib.ListN.{length}
-use Rattle.numbers.specs.Tests.{eqList, allOf, numbered}
+use Rattle.numbers.specs.Tests.{eqList, allOf}
 use Rattle.program.specs.Names.{Name, twoCharacters, userName}
-use Rattle.program.specs.Statements.{Value, Literal, Variable, Condition, Always, Compare, Statement, Set, SetWith, IC, DC, BR, CL, RT, E, H, Hold, OE, Disarm, MA, MR, SL, PR}
-use Rattle.program.proofs.Places.{numbered-most}
+use Rattle.program.specs.Statements.{Value, Literal, Variable, Condition, Always, Compare, Statement, Set, SetWith, IC, DC, BR, CL, RT, E, H, Hold, OE, Disarm, MA, MR, SL, PR, Operator, Comparison}
 use Rattle.text.specs.Tokens.{Token, tokens, uncommented, printable}
-use Rattle.text.specs.Forms.{Line, Blank, Label, Declared, Acts, operators, comparisons, Taken, literal, variableName, variable, operand, Slot, Is, New, Target, Written, Left, Right, Start, Operator, Comparison, Parts, noParts, named, writing, onLeft, selecting, onRight, starting, put, takesWord, takesFirst, takes, fill, Form, forms, byForm, statement, reading}
-
--- A number from 1 to the last.
-abbrev pub UpTo : ℕ → ℕ → Type 0
-UpTo last n = (1 ≤ n) × (n ≤ last)
+use Rattle.text.specs.Forms.{Line, Blank, Label, Declared, Acts, operatorMeant, comparisonMeant, Taken, literal, variableName, variable, operand, Slot, Is, New, Target, Written, Left, Right, Start, Operating, Comparing, Parts, noParts, naming, writing, onLeft, operating, comparing, onRight, starting, put, word, sign, takes, fill, Form, forms, byForm, statement, reading}
 
 abbrev pub ParsedValue : Value Name → Type 0
 ParsedValue (Literal z) = Unit {0}
@@ -27,11 +20,11 @@ ParsedValue (Variable v) = T (variableName v)
 
 abbrev pub ParsedCondition : Condition Name → Type 0
 ParsedCondition Always = Unit {0}
-ParsedCondition (Compare x c y) = ParsedValue x × UpTo 6 c × ParsedValue y
+ParsedCondition (Compare x c y) = ParsedValue x × ParsedValue y
 
 abbrev pub ParsedStatement : Statement Name → Type 0
 ParsedStatement (Set v x) = T (variableName v) × ParsedValue x
-ParsedStatement (SetWith v x o y) = T (variableName v) × ParsedValue x × UpTo 7 o × ParsedValue y
+ParsedStatement (SetWith v x o y) = T (variableName v) × ParsedValue x × ParsedValue y
 ParsedStatement (IC v) = T (variableName v)
 ParsedStatement (DC v) = T (variableName v)
 ParsedStatement (BR n c) = T (userName n) × ParsedCondition c
@@ -59,17 +52,26 @@ module _ {A : Type 0} where
   given true x y e = (tt, cc)
   given false x y e = let z : _≡_ {A = ℕ} 0 1 = cc in absurd (omega arith)
 
-  given-not : (b : Bool) (x y : A) → cond b none (some x) ≡ some y → (b ≡ false) × (x ≡ y)
-  given-not true x y e = let z : _≡_ {A = ℕ} 0 1 = cc in absurd (omega arith)
-  given-not false x y e = (refl, cc)
+-- What is taken of some tokens, put among other things.
+put-taken : {A B : Type 0} (P : B → Type 0) (into : A → B) (o : Option (Taken A)) (f : Taken B)
+    → ((a : Taken A) → o ≡ some a → P (into (a .part))) → put into o ≡ some f → P (f .part)
+unfolding put
+put-taken P into none f h e = let z : _≡_ {A = ℕ} 0 1 = cc in absurd (omega arith)
+put-taken {A} {B} P into (some a) f h e =
+    let g : _≡_ {A = Taken B} (record { part = into (a .part); rest = a .rest }) f = cc in
+    subst (λ (t : Taken B). P (t .part)) g (h a refl)
+
+word-passes : (test : Name → Bool) (ts : List Token) (f : Taken Name) → word test ts ≡ some f → T (test (f .part))
+unfolding word
+word-passes test [] f e = let z : _≡_ {A = ℕ} 0 1 = cc in absurd (omega arith)
+word-passes test (t ∷ ts) f e =
+    let g = given (test (t .chars)) _ f e in
+    subst (λ (h : Taken Name). T (test (h .part))) (g .1) (g .0)
 
 -- An operand.
 variable-parsed : (ts : List Token) (f : Taken (Value Name)) → variable ts ≡ some f → ParsedValue (f .part)
 unfolding variable
-variable-parsed [] f e = let z : _≡_ {A = ℕ} 0 1 = cc in absurd (omega arith)
-variable-parsed (t ∷ ts) f e =
-    let g = given (variableName (t .chars)) _ f e in
-    subst (λ (h : Taken (Value Name)). ParsedValue (h .part)) (g .1) (g .0)
+variable-parsed ts f e = put-taken ParsedValue Variable (word variableName ts) f (λ a q. word-passes variableName ts a q) e
 
 operand-parsed : (ts : List Token) (f : Taken (Value Name)) → operand ts ≡ some f → ParsedValue (f .part)
 unfolding operand
@@ -84,68 +86,30 @@ operand-parsed ts f e = go (literal ts) refl where
 -- What is to be shown of the parts before a slot takes its own, for P to hold behind it.
 abbrev Takes : Slot → (Parts → Type 0) → Parts → Type 0
 Takes (Is w) P p = P p
-Takes New P p = (w : Name) → T (twoCharacters w) → P (named w p)
-Takes Target P p = (w : Name) → T (userName w) → P (named w p)
-Takes Written P p = (w : Name) → T (variableName w) → P (writing w p)
+Takes New P p = (w : Name) → T (twoCharacters w) → P (naming p w)
+Takes Target P p = (w : Name) → T (userName w) → P (naming p w)
+Takes Written P p = (w : Name) → T (variableName w) → P (writing p w)
 Takes Left P p = (x : Value Name) → ParsedValue x → P (onLeft p x)
 Takes Right P p = (x : Value Name) → ParsedValue x → P (onRight p x)
 Takes Start P p = (z : ℤ) → P (starting p z)
-Takes Operator P p = (n : ℕ) → UpTo 7 n → P (selecting n p)
-Takes Comparison P p = (n : ℕ) → UpTo 6 n → P (selecting n p)
+Takes Operating P p = (o : Operator) → P (operating p o)
+Takes Comparing P p = (c : Comparison) → P (comparing p c)
 
 abbrev Leads : List Slot → (Parts → Type 0) → Parts → Type 0
 Leads [] P p = P p
 Leads (s ∷ ss) P p = Takes s (Leads ss P) p
 
-module _ (P : Parts → Type 0) (p : Parts) where
-  behind : {f g : Taken Parts} → f ≡ g → P (f .part) → P (g .part)
-  behind e h = subst (λ (f : Taken Parts). P (f .part)) e h
-
-  -- a selector by its place in its table
-  selected : (names : List Name) (w : Name) (ts : List Token) (f : Taken Parts) → ((n : ℕ) → UpTo (length names) n → P (selecting n p))
-      → cond (eqb (numbered names w) 0) none (some (record { part = selecting (numbered names w) p; rest = ts })) ≡ some f → P (f .part)
-  selected names w ts f h e =
-      let g = given-not (eqb (numbered names w) 0) _ f e in
-      let z = eqb-false (numbered names w) 0 (g .0) in
-      let m = numbered-most names w in
-      behind (g .1) (h (numbered names w) (omega arith, m))
-
-  word-taken : (s : Slot) (w : Name) (ts : List Token) (f : Taken Parts) → Takes s P p → takesWord s w ts p ≡ some f → P (f .part)
-  unfolding takesWord operators comparisons
-  word-taken (Is m) w ts f h e = behind (given (eqList w m) _ f e .1) h
-  word-taken New w ts f h e = let g = given (twoCharacters w) _ f e in behind (g .1) (h w (g .0))
-  word-taken Target w ts f h e = let g = given (userName w) _ f e in behind (g .1) (h w (g .0))
-  word-taken Written w ts f h e = let g = given (variableName w) _ f e in behind (g .1) (h w (g .0))
-  word-taken Left w ts f h e = let z : _≡_ {A = ℕ} 0 1 = cc in absurd (omega arith)
-  word-taken Right w ts f h e = let z : _≡_ {A = ℕ} 0 1 = cc in absurd (omega arith)
-  word-taken Start w ts f h e = let z : _≡_ {A = ℕ} 0 1 = cc in absurd (omega arith)
-  word-taken Operator w ts f h e = selected operators w ts f h e
-  word-taken Comparison w ts f h e = selected comparisons w ts f h e
-
-  first-taken : (s : Slot) (ts : List Token) (f : Taken Parts) → Takes s P p → takesFirst s ts p ≡ some f → P (f .part)
-  unfolding takesFirst
-  first-taken s [] f h e = let z : _≡_ {A = ℕ} 0 1 = cc in absurd (omega arith)
-  first-taken s (t ∷ ts) f h e = word-taken s (t .chars) ts f h e
-
-  put-taken : {A : Type 0} (into : A → Parts) (o : Option (Taken A)) (f : Taken Parts)
-      → ((a : Taken A) → o ≡ some a → P (into (a .part))) → put into o ≡ some f → P (f .part)
-  unfolding put
-  put-taken into none f h e = let z : _≡_ {A = ℕ} 0 1 = cc in absurd (omega arith)
-  put-taken into (some a) f h e =
-      let g : _≡_ {A = Taken Parts} (record { part = into (a .part); rest = a .rest }) f = cc in
-      behind g (h a refl)
-
-  taken : (s : Slot) (ts : List Token) (f : Taken Parts) → Takes s P p → takes s ts p ≡ some f → P (f .part)
-  unfolding takes
-  taken (Is m) ts f h e = first-taken (Is m) ts f h e
-  taken New ts f h e = first-taken New ts f h e
-  taken Target ts f h e = first-taken Target ts f h e
-  taken Written ts f h e = first-taken Written ts f h e
-  taken Left ts f h e = put-taken (onLeft p) (operand ts) f (λ a q. h (a .part) (operand-parsed ts a q)) e
-  taken Right ts f h e = put-taken (onRight p) (operand ts) f (λ a q. h (a .part) (operand-parsed ts a q)) e
-  taken Start ts f h e = put-taken (starting p) (literal ts) f (λ a q. h (a .part)) e
-  taken Operator ts f h e = first-taken Operator ts f h e
-  taken Comparison ts f h e = first-taken Comparison ts f h e
+taken : (P : Parts → Type 0) (p : Parts) (s : Slot) (ts : List Token) (f : Taken Parts) → Takes s P p → takes s ts p ≡ some f → P (f .part)
+unfolding takes
+taken P p (Is m) ts f h e = put-taken P (λ w. p) (word (λ w. eqList w m) ts) f (λ a q. h) e
+taken P p New ts f h e = put-taken P (naming p) (word twoCharacters ts) f (λ a q. h (a .part) (word-passes twoCharacters ts a q)) e
+taken P p Target ts f h e = put-taken P (naming p) (word userName ts) f (λ a q. h (a .part) (word-passes userName ts a q)) e
+taken P p Written ts f h e = put-taken P (writing p) (word variableName ts) f (λ a q. h (a .part) (word-passes variableName ts a q)) e
+taken P p Left ts f h e = put-taken P (onLeft p) (operand ts) f (λ a q. h (a .part) (operand-parsed ts a q)) e
+taken P p Right ts f h e = put-taken P (onRight p) (operand ts) f (λ a q. h (a .part) (operand-parsed ts a q)) e
+taken P p Start ts f h e = put-taken P (starting p) (literal ts) f (λ a q. h (a .part)) e
+taken P p Operating ts f h e = put-taken P (operating p) (sign operatorMeant ts) f (λ a q. h (a .part)) e
+taken P p Comparing ts f h e = put-taken P (comparing p) (sign comparisonMeant ts) f (λ a q. h (a .part)) e
 
 filled : (P : Parts → Type 0) (ss : List Slot) (ts : List Token) (p q : Parts) → Leads ss P p → fill ss ts p ≡ some q → P q
 unfolding fill
@@ -185,13 +149,13 @@ all-lead =
     then (λ w t. t)
     then (λ w t z. t)
     then (λ v t x h. (t, h))
-    then (λ v t x h o k y j. (t, h, k, j))
+    then (λ v t x h o y j. (t, h, j))
     then (λ v t. t)
     then (λ v t. t)
     then (λ n t. (t, tt))
-    then (λ n t x h c k y j. (t, (h, k, j)))
+    then (λ n t x h c y j. (t, (h, j)))
     then (λ n t. (t, tt))
-    then (λ n t x h c k y j. (t, (h, k, j)))
+    then (λ n t x h c y j. (t, (h, j)))
     then tt
     then tt
     then tt

@@ -18,9 +18,9 @@ use Rattle.text.specs.Faults.{howMany, makesLabel, makesVariable, declares, dec
 use Rattle.image.specs.Layout.{labelTarget}
 use Rattle.image.specs.Code.{labelled}
 use Rattle.image.proofs.Any.{that-is, or-true}
-use Rattle.image.proofs.Accepted.{Writes, Reads, Names, Chooses, Compares, Acceptable}
+use Rattle.image.proofs.Accepted.{Writes, Reads, Names, Compares, Acceptable}
 use Rattle.translation.specs.Images.{imageOf}
-use Rattle.agreement.proofs.Parsed.{UpTo, ParsedCondition, ParsedStatement}
+use Rattle.agreement.proofs.Parsed.{ParsedCondition, ParsedStatement}
 use Rattle.agreement.proofs.Sound.{Fine, Good, neither}
 use Rattle.agreement.proofs.Places.{rankBy, rank-rank, rank-below, count-behind}
 use Rattle.agreement.proofs.Records.{label-count, label-target}
@@ -132,9 +132,6 @@ module _ (xs : List Line) (f : Fine xs) where
   abbrev Names′ : Name → Type 0
   Names′ n = Names (placeOf xs) (numberOf xs) (imageOf xs) (howMany makesVariable xs) n
 
-  abbrev Chooses′ : ℕ → ℕ → Type 0
-  Chooses′ last n = Chooses (placeOf xs) (numberOf xs) (imageOf xs) (howMany makesVariable xs) last n
-
   written : (v : Name) → anyOf (unknownVariable xs) (v ∷ []) ≡ false → anyOf (λ u. readOnly (paperVariable u)) (v ∷ []) ≡ false → Writes′ v
   unfolding Writes
   written v u r =
@@ -152,10 +149,6 @@ module _ (xs : List Line) (f : Fine xs) where
   unfolding Names
   named n e = label-there n (not-false (firstMakes makesLabel n xs) (one-none (λ n. not (firstMakes makesLabel n xs)) n e))
 
-  chosen : (last n : ℕ) → UpTo last n → Chooses′ last n
-  unfolding Chooses
-  chosen last n h = rw (le-leb 1 n (h .0), le-leb n last (h .1))
-
   read-one : (x : Value Name) → anyOf bigValue (x ∷ []) ≡ false → anyOf (unknownValue xs) (x ∷ []) ≡ false → Reads′ x
   read-one x b u = known x (one-none bigValue x b) (one-none (unknownValue xs) x u)
 
@@ -169,7 +162,7 @@ module _ (xs : List Line) (f : Fine xs) where
       → Compares (placeOf xs) (numberOf xs) (imageOf xs) (howMany makesVariable xs) c
   unfolding Compares compared
   compares Always h b u = tt
-  compares (Compare x c y) h b u = let r = read-two x y b u in (r .0, chosen 6 c (h .1), r .1)
+  compares (Compare x c y) h b u = read-two x y b u
 
   acts : (s : Statement Name) → ParsedStatement s → anyOf bigValue (operands s) ≡ false
       → anyOf (λ n. not (firstMakes makesLabel n xs)) (targets s) ≡ false → anyOf (unknownVariable xs) (writes s) ≡ false
@@ -177,7 +170,7 @@ module _ (xs : List Line) (f : Fine xs) where
       → Acceptable (placeOf xs) (numberOf xs) (imageOf xs) (howMany makesVariable xs) s
   unfolding Acceptable operands targets writes
   acts (Set v x) h b t w u r = (written v w r, read-one x b u)
-  acts (SetWith v x o y) h b t w u r = let k = read-two x y b u in (written v w r, k .0, chosen 7 o (h .2), k .1)
+  acts (SetWith v x o y) h b t w u r = let k = read-two x y b u in (written v w r, k .0, k .1)
   acts (IC v) h b t w u r = written v w r
   acts (DC v) h b t w u r = written v w r
   acts (BR n c) h b t w u r = (named n t, compares c (h .1) b u)

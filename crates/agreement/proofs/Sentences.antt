@@ -8,10 +8,10 @@ use Prim.Native.Nat.{ℕ, suc, _+_, _-_, _≤_, _<_}
 use native.Mathlib.Omega.{arith}
 use borrow.Author.Tests.{lt-leb, le-leb, ltb-false}
 use lib.Dec.{eqb, leb, ltb}
-use Rattle.numbers.specs.Tests.{anyBelow, eqList, numbered}
+use Rattle.numbers.specs.Tests.{anyBelow, eqList}
 use Rattle.program.specs.Names.{Name, twoCharacters, userName}
 use Rattle.text.specs.Tokens.{Token}
-use Rattle.text.specs.Forms.{Slot, Is, New, Target, Written, Left, Right, Start, Operator, Comparison, Parts, Taken, takes, takesFirst, takesWord, operators, comparisons, variableName}
+use Rattle.text.specs.Forms.{Slot, Is, New, Target, Written, Left, Right, Start, Operating, Comparing, Parts, naming, writing, operating, comparing, Taken, took, put, word, sign, takes, operatorMeant, comparisonMeant, variableName}
 use Rattle.effects.specs.declared.Effect.{Effect}
 use Rattle.machine.specs.declared.Machine.{Machine}
 use Rattle.machine.specs.declared.Event.{Event}
@@ -61,29 +61,37 @@ Operands Written = ⊥
 Operands Left = Unit {0}
 Operands Right = Unit {0}
 Operands Start = Unit {0}
-Operands Operator = ⊥
-Operands Comparison = ⊥
+Operands Operating = ⊥
+Operands Comparing = ⊥
 
 abbrev Rest : Option (Taken Parts) → List Token → Type 0
 Rest none ts = Unit {0}
 Rest (some f) ts = f .rest ≡ ts
 
-rest-if : (b : Bool) (p : Parts) (ts : List Token) → Rest (cond b (some (record { part = p; rest = ts })) none) ts
-rest-if true p ts = refl
-rest-if false p ts = tt
+rest-word : (test : Name → Bool) (into : Name → Parts) (t : Token) (ts : List Token) → Rest (put into (word test (t ∷ ts))) ts
+unfolding word put
+rest-word test into t ts = pick (test (t .chars))
+  where
+    pick : (b : Bool) → Rest (put into (cond b (took (t .chars) ts) none)) ts
+    pick true = refl
+    pick false = tt
 
-rest-unless : (b : Bool) (p : Parts) (ts : List Token) → Rest (cond b none (some (record { part = p; rest = ts }))) ts
-rest-unless true p ts = tt
-rest-unless false p ts = refl
+rest-sign : {A : Type 0} (means : Name → Option A) (into : A → Parts) (t : Token) (ts : List Token) → Rest (put into (sign means (t ∷ ts))) ts
+unfolding sign put
+rest-sign {A} means into t ts = pick (means (t .chars))
+  where
+    pick : (o : Option A) → Rest (put into (elim o [ none ↦ none | some a ↦ took a ts ])) ts
+    pick none = tt
+    pick (some a) = refl
 
 pub one-token : (s : Slot) (t : Token) (ts : List Token) (p : Parts) → (Operands s → ⊥) → Rest (takes s (t ∷ ts) p) ts
-unfolding takes takesFirst takesWord
-one-token (Is w) t ts p h = rest-if (eqList (t .chars) w) _ ts
-one-token New t ts p h = rest-if (twoCharacters (t .chars)) _ ts
-one-token Target t ts p h = rest-if (userName (t .chars)) _ ts
-one-token Written t ts p h = rest-if (variableName (t .chars)) _ ts
+unfolding takes
+one-token (Is w) t ts p h = rest-word (λ v. eqList v w) (λ v. p) t ts
+one-token New t ts p h = rest-word twoCharacters (naming p) t ts
+one-token Target t ts p h = rest-word userName (naming p) t ts
+one-token Written t ts p h = rest-word variableName (writing p) t ts
 one-token Left t ts p h = absurd (h tt)
 one-token Right t ts p h = absurd (h tt)
 one-token Start t ts p h = absurd (h tt)
-one-token Operator t ts p h = rest-unless (eqb (numbered operators (t .chars)) 0) _ ts
-one-token Comparison t ts p h = rest-unless (eqb (numbered comparisons (t .chars)) 0) _ ts
+one-token Operating t ts p h = rest-sign operatorMeant (operating p) t ts
+one-token Comparing t ts p h = rest-sign comparisonMeant (comparing p) t ts

@@ -16,7 +16,6 @@ use Rattle.program.specs.Statements.{Value, Literal, Variable, Condition, Alway
 use Rattle.program.proofs.Keys.{IsWord, both, either, two-word, user-word, paper-word}
 use Rattle.text.specs.Forms.{Line, Blank, Label, Declared, Acts, variableName}
 use Rattle.translation.proofs.Parts.{TwoNamed, AllTwo}
-use Rattle.agreement.proofs.Meaning.{Selected}
 use Rattle.agreement.proofs.Parsed.{Parsed, ParsedValue, ParsedCondition, ParsedStatement}
 use Rattle.agreement.proofs.Sound.{Sound, Fine}
 
@@ -34,27 +33,6 @@ variable-word v t =
     (λ h. paper-word v (not-zero (paperVariable v) h))
     (λ h. user-word v h)
     (either (not (eqb (paperVariable v) 0)) (userName v) t)
-
--- The comparison of a condition.
-pub selected : (s : Statement Name) → ParsedStatement s → Selected s
-selected (Set v x) h = tt
-selected (SetWith v x o y) h = tt
-selected (IC v) h = tt
-selected (DC v) h = tt
-selected (BR n Always) h = tt
-selected (BR n (Compare x c y)) h = let l = h .1 .1 .0 in λ e. omega arith
-selected (CL n Always) h = tt
-selected (CL n (Compare x c y)) h = let l = h .1 .1 .0 in λ e. omega arith
-selected RT h = tt
-selected E h = tt
-selected H h = tt
-selected (Hold x) h = tt
-selected (OE n) h = tt
-selected Disarm h = tt
-selected (MA x) h = tt
-selected (MR x) h = tt
-selected (SL x) h = tt
-selected (PR x) h = tt
 
 -- The names that a line declares.
 pub two-named : (x : Line) → Parsed x → TwoNamed x

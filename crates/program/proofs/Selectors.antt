@@ -1,8 +1,10 @@
 -- Operators and comparisons have their numbers back, and the numbers what they stand for.
 -- Assumes nothing.
 use mathlib.Core.Path.{_≡_, refl}
-use Prim.Native.Nat.{ℕ, _≤_}
+use mathlib.Core.Bool.{false}
+use Prim.Native.Nat.{ℕ, _≤_, _<_}
 use native.Mathlib.Omega.{arith}
+use lib.Dec.{eqb}
 use Rattle.numbers.proofs.Lists.{EachFrom, each-from}
 use Rattle.program.specs.Statements.{Operator, Plus, Minus, Times, Divided, BitAnd, BitOr, BitXor, Comparison, Equal, Unequal, Less, AtMost, Greater, AtLeast}
 use Rattle.program.specs.Cells.{operatorNumber, comparisonNumber, operatorOf, comparisonOf}
@@ -40,3 +42,33 @@ comparison-back Less = refl
 comparison-back AtMost = refl
 comparison-back Greater = refl
 comparison-back AtLeast = refl
+
+-- A comparison's number is never that of a jump without a condition.
+pub comparison-some : (c : Comparison) → eqb (comparisonNumber c) 0 ≡ false
+unfolding comparisonNumber
+comparison-some Equal = refl
+comparison-some Unequal = refl
+comparison-some Less = refl
+comparison-some AtMost = refl
+comparison-some Greater = refl
+comparison-some AtLeast = refl
+
+-- Each number fits its byte.
+pub operator-byte : (o : Operator) → operatorNumber o < 256
+unfolding operatorNumber
+operator-byte Plus = omega arith
+operator-byte Minus = omega arith
+operator-byte Times = omega arith
+operator-byte Divided = omega arith
+operator-byte BitAnd = omega arith
+operator-byte BitOr = omega arith
+operator-byte BitXor = omega arith
+
+pub comparison-byte : (c : Comparison) → comparisonNumber c < 256
+unfolding comparisonNumber
+comparison-byte Equal = omega arith
+comparison-byte Unequal = omega arith
+comparison-byte Less = omega arith
+comparison-byte AtMost = omega arith
+comparison-byte Greater = omega arith
+comparison-byte AtLeast = omega arith
