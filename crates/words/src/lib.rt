@@ -124,8 +124,8 @@ refusal 3: a byte or a form that no statement has
 refusal 4: a number outside -2,147,483,647 to 2,147,483,647
 refusal 5: the name is a mnemonic or a variable of the language
 refusal 6: the name is declared on a line before this one
-refusal 7: one cell, label or variable too many (at most 256, 160 and 32)
-refusal 8: name not declared, or first declared as the other kind
+refusal 7: one cell, label or variable over the limit (256, 160, 32)
+refusal 8: no declaration of the name, or the first is of another kind
 refusal 9: the variable can only be read
 refusal 10: the image does not fit into its buffer
 refusal 21: the image has fewer than 16 bytes or more than 5,008
