@@ -1,5 +1,5 @@
-// The lines that add to a text, to an image that is given by its bytes, or to a script of events. An event is twelve bytes: turn (4), kind,
-// number, two zeros, value (4).
+// The lines that add to a text, to an image that is given by its bytes, or to a script of events. An event has twelve bytes: four for its
+// turn, one for its kind, one for its number, two zeros, and four for its value.
 use crate::buffer;
 use crate::buffer::BROKEN;
 use crate::buffer::Buffer;
