@@ -71,7 +71,7 @@ FirstBad script i = (i < eventCount script) × (badEvent script i ≡ true) × (
 pub record TextRefused (text buffer : List ℕ) (t : Translation) : Type 0 where
   -- Refusals 1, Refusals 20: 1 exactly if the text is over 16,384 bytes.
   pub one : (t .answer .number ≡ 1) ↔ (overlong text ≡ true)
-  -- Refusals 2 to 9, Refusals 20: else a number from 2 to 9 and a line exactly if it is the first faulty line, and its lowest number.
+  -- Refusals 2 to 9, Refusals 20: else n from 2 to 9 with line l exactly if no line above l has a fault, and n is the lowest that l has.
   pub faulty : (n l : ℕ) → 2 ≤ n → n ≤ 9
       → ((t .answer .number ≡ n) × (t .answer .line ≡ l)) ↔ ((overlong text ≡ false) × FirstFault text n l)
   -- Refusals 10, Refusals 20: else 10 exactly if the buffer is shorter than the image.
@@ -107,13 +107,13 @@ pub record RunRefused (s script : List ℕ) (budget : ℕ) (buffer : List ℕ) (
   pub event : o .answer .number ≡ 33 → (i : ℕ) → (o .answer .index ≡ i) ↔ FirstBad script i
   -- Refusals 23, Refusals 25: every other number, 0 too, has the index 0.
   pub no-event : (o .answer .number ≡ 33 → ⊥) → o .answer .index ≡ 0
-  -- Refusals 23: where a run is refused all other parts are 0, the state too.
+  -- Refusals 23: a refused run tells no more than that; every other number in its answer and in its state is 0.
   pub rest-refused : (o .answer .number ≡ 0 → ⊥) → o .answer ≡ refusedAs (o .answer .number) (o .answer .index)
   -- Refusals 24: a refused call leaves the buffer as it was.
   pub buffer-refused : (o .answer .number ≡ 0 → ⊥) → o .records ≡ buffer
 
--- Demand 1: any text, image, event script, budget and buffer size is given one answer; bad input gets its numbered refusal and only when its rule says so;
--- a refused call writes to no buffer.
+-- Demand 1: whatever a call is given, and whatever room it is lent, there is one answer. It is a refusal's number exactly where that refusal's test holds
+-- and no test in front of it does; and then what was lent comes back unchanged.
 pub record Demand1 (translate : Translate) (check : Check) (run : Run) : Type 0 where
   pub translating : (text buffer : List ℕ) → TextRefused text buffer (translate text buffer)
   pub checking : (s : List ℕ) → ImageRefused s (check s)
@@ -125,8 +125,8 @@ TurnsInto translate text s =
     (buffer : List ℕ) → length s ≤ length buffer
     → (translate text buffer .answer .number ≡ 0) × (translate text buffer .answer .length ≡ length s) × (take (length s) (translate text buffer .image) ≡ s)
 
--- Demand 2: every accepted text becomes exactly the image of document 01; an image is accepted exactly if some accepted text translates to it;
--- running an accepted image takes, turn by turn, the effects written there.
+-- Demand 2: a good text is turned into its one image, as document 01 lays the bytes out. The images that pass the check are those that such texts give,
+-- and no others. In a run of one each turn does what the paper has its statement do.
 pub record Demand2 (translate : Translate) (check : Check) (run : Run) : Type 0 where
   -- Image 1 to 14, Refusals 25: an accepted text, in any buffer with room, is answered by 0, 0 and the image's length;
   -- the buffer holds the image and behind it what stood there.
@@ -143,9 +143,9 @@ pub record Demand2 (translate : Translate) (check : Check) (run : Run) : Type 0 
       → check s .number ≡ 0 → badScript script ≡ false → badEvents script ≡ false → budget ≤ 4096 → 12 * budget ≤ length buffer
       → run s script budget buffer ≡ record { answer = ranAs (imageCourse s script budget); records = over (imageCourse s script budget) buffer }
 
--- Demand 3: any accepted text, any accepted script, any budget from 0 to 4,096, a record buffer of the size required with any content, and any image buffer
--- with room. Running the image that translating gives is, as one equation, following the text line by line: the same end reason, number of turns, records
--- byte for byte and final machine state (Text 9, Events 7, Events 8).
+-- Demand 3: let text and script be good, the turns at most 4,096, and both buffers long enough, whatever they hold. Then the run of the image that
+-- translating gives is the text's own run, in one equation: why it ends, after how many turns, each byte of its records, and the state at its end
+-- (Text 9, Events 7, Events 8).
 pub record Demand3 (translate : Translate) (run : Run) : Type 0 where
   pub one-thing : (text room script : List ℕ) (budget : ℕ) (buffer : List ℕ)
       → accepted text ≡ true → length (image text) ≤ length room

@@ -1,5 +1,6 @@
--- A text for every accepted image (document 02, Q-1): demand 2 asks that there is one.
--- VA lines first, each label just before its target cell, a target by its first label, plain decimal, LF endings.
+-- A text for every accepted image: demand 2 asks that there is one.
+-- Variables are declared on top. A label stands on the line above the cell that it leads to, or last; of several there, a jump names the first.
+-- Numbers have no needless zeros, and every line ends with LF.
 -- Assumes nothing.
 use mathlib.Core.Bool.{cond}
 use mathlib.Core.List.{List, [], _∷_, _++_, flatMap}
@@ -44,7 +45,7 @@ unfoldable pub conditionText : List ℕ → Condition ℕ → List ℕ
 conditionText s Always = []
 conditionText s (Compare x c y) = ascii "," ++ (valueText s x ++ (comparisonSign c ++ valueText s y))
 
--- One statement: one space after a mnemonic with operands, no other.
+-- One statement. Its only space stands between the mnemonic and what follows.
 unfoldable pub statementText : List ℕ → Statement ℕ → List ℕ
 statementText s (Set v x) = variableName s v ++ (ascii "=" ++ valueText s x)
 statementText s (SetWith v x o y) = variableName s v ++ (ascii "=" ++ (valueText s x ++ (operatorSign o ++ valueText s y)))
