@@ -90,14 +90,14 @@ unfolding Check.checked Check.imageFaults Check.badLength Tests.lowest
 no-empty-image [] h e = absurd (omega arith)
 no-empty-image (x ∷ s) h e = absurd (omega arith)
 
--- A translator that refuses all, with any number, line and buffer: shut out by demand 2's layout, at the empty text.
+-- A translator that takes no text, with any number, line and buffer: shut out by demand 2's layout, at the empty text.
 pub refuses-all : (translate : Translate) (check : Check) (run : Run)
     → ((text buffer : List ℕ) → translate text buffer .answer .number ≡ 0 → ⊥) → Demand2 translate check run → ⊥
 refuses-all translate check run refuses d =
     refuses [] (fresh 128) (ap (λ (t : Translation). t .answer .number)
     (d .laid-out [] (fresh 128) (accepted-bytes [] empty-accepted) empty-accepted (row-room [] 16 (sheet-holds .1 .1 .1 .0 .0))))
 
--- A translator that gives the empty image for every text, with any number, line and buffer: by demand 2, at the empty text.
+-- A translator that gives no text any bytes, with any number, line and buffer: by demand 2, at the empty text.
 pub empty-images : (translate : Translate) (check : Check) (run : Run)
     → ((text buffer : List ℕ) → translate text buffer .answer .length ≡ 0) → Demand2 translate check run → ⊥
 empty-images translate check run empty d =
@@ -115,7 +115,7 @@ empty-images-run translate empty d =
     let z : _≡_ {A = ℕ} 21 0 = ap (λ (o : Outcome). o .answer .number) (ap (λ (s : List ℕ). ourRun s [] 0 []) (sym nothing) ∙ e) in
     omega arith
 
--- A checker that takes all: by demand 2, at the image of no bytes, which no accepted text gives.
+-- A checker that accepts any bytes: by demand 2, at the image of no bytes, which no accepted text gives.
 pub takes-all : (translate : Translate) (check : Check) (run : Run) → ((s : List ℕ) → check s .number ≡ 0) → Demand2 translate check run → ⊥
 takes-all translate check run takes d =
     let c = d .from-text [] (λ k. omega arith) .0 (takes []) in
@@ -146,7 +146,7 @@ module _ (translate : Translate) (check : Check) (run : Run) (d : Demand2 transl
       ∙ ap (λ (s : List ℕ). ran s twoArrivals 20 240 .state .next) feeder-image
       ∙ ap (λ (a : Ran). a .state .next) (sheet-holds .1 .0 .2 .0 .0)
 
--- A runner that writes nothing, with any answer: by demand 2's turn rules, at the feeder.
+-- A runner that leaves the record buffer alone, with any answer: by demand 2's turn rules, at the feeder.
 pub writes-nothing : (translate : Translate) (check : Check) (run : Run)
     → ((s script : List ℕ) (budget : ℕ) (buffer : List ℕ) → run s script budget buffer .records ≡ buffer) → Demand2 translate check run → ⊥
 writes-nothing translate check run nothing d =
@@ -162,7 +162,7 @@ one-turn-next : stateOf (imageCourse feederImage twoArrivals 1 .machine) .next �
 unfolding Bits.digits32 Bits.signed32 Bits.eachDigit Bits.on32 B.bytes B.number B.field Tests.eqZ Tests.listed Tests.allOf Tests.anyOf Cells.noTarget Cells.operandOf Cells.jumpOf Cells.valueOf Cells.conditionOf Cells.holdOf Cells.statementBy Cells.statementOf Variables.rangeOf Variables.startVariables Variables.allInputs Layout.operandNumber Layout.trailerPlace Layout.cellCount Layout.labelCount Layout.variableCount Layout.operandAt Layout.cellAt Layout.labelPlace Layout.variablePlace Layout.startValue Layout.startValues Layout.firstLabelPlace Effects.read Effects.storing Effects.storingResult Effects.moving Effects.value Effects.effect Events.eventAt Events.eventCount Events.events Events.happens Events.recordBytes R.reach R.runFrom Turn.startMachine Turn.keep Turn.lastPlace Turn.movingBit Turn.inMotion Turn.turn Courses.cellActs Courses.imageCourse Courses.over Running.stateOf
 one-turn-next = refl
 
--- A runner that does turn one and idles after: the records of the first turn alone, with any answer; and the state after the first turn, with any records.
+-- A runner that takes the first turn and no other: the records of the first turn alone, with any answer; and the state after the first turn, with any records.
 -- Both by demand 2's turn rules, at the feeder.
 pub idles-records : (translate : Translate) (check : Check) (run : Run)
     → ((s script : List ℕ) (budget : ℕ) (buffer : List ℕ) → run s script budget buffer .records ≡ over (imageCourse s script 1) buffer) → Demand2 translate check run → ⊥

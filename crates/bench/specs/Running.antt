@@ -80,7 +80,7 @@ refusedAs number index = record { number = number; index = index; reason = 0; tu
 unfoldable pub bigBudget : ℕ → Bool
 bigBudget budget = ltb 4096 budget
 
--- Refusals 19: a record buffer of this size is under 12 times the budget.
+-- Refusals 19: a record buffer of this size has no room for a record in every turn.
 unfoldable pub smallRoom : ℕ → ℕ → Bool
 smallRoom budget room = ltb room (12 * budget)
 
@@ -92,7 +92,7 @@ runFaults script budget room = badScript script ∷ badEvents script ∷ bigBudg
 unfoldable pub runRefusal : List ℕ → List ℕ → ℕ → ℕ → ℕ
 runRefusal s script budget room = cond (eqb (checked s) 0) (lowest 32 (runFaults script budget room)) (checked s)
 
--- Refusals 23: 33 also gives the first such event's index.
+-- Refusals 23: with 33 comes the place of the first bad event in the script.
 unfoldable pub refusalIndex : ℕ → List ℕ → ℕ
 refusalIndex number script = cond (eqb number 33) (firstBadEvent script) 0
 

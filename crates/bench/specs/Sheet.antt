@@ -1,4 +1,4 @@
--- Document 01, "Bench sheet": a to l as one table under one statement, by computation.
+-- Document 01, "Bench sheet": its rows a to l in one table, which holds by computation.
 -- Assumes nothing.
 use mathlib.Core.Path.{_≡_, refl}
 use mathlib.Core.List.{List, [], _∷_, _++_}

@@ -9,14 +9,14 @@ use Rattle.text.specs.Faults.{overlong, firstFault}
 use Rattle.translation.specs.Images.{image}
 use Rattle.bench.specs.declared.Translated.{Translated}
 
--- Refusals 10: the buffer is shorter than the image.
+-- Refusals 10: the image does not fit into the buffer.
 unfoldable pub tooShort : List ℕ → ℕ → Bool
 tooShort text room = ltb room (length (image text))
 
 abbrev pub answered : ℕ → ℕ → ℕ → Translated
 answered number line length = record { number = number; line = line; length = length }
 
--- Refusals 20, Refusals 22, Refusals 25: 1 first, 10 last, between them the first faulty line; for a buffer of this size.
+-- Refusals 20, Refusals 22, Refusals 25: 1 before all, 10 behind all, between them the first line with a fault; for a buffer of this size.
 unfoldable pub translated : List ℕ → ℕ → Translated
 translated text room =
     cond (overlong text) (answered 1 0 0)

@@ -1,4 +1,4 @@
-// The bench: translate a text, check an image, run an image. Its answers are plain data.
+// The bench: a text translated, an image checked, an image run. Its answers are plain data.
 mod answers;
 
 ghost use Rattle.bench.specs.Calls.{Translates, Checks, Runs};
@@ -15,7 +15,7 @@ pub struct Checked {
     pub number: u8,
 }
 
-// A machine's state. The handler is 65535 where there is none; the motion is 0 still, 1 to a target, 2 slewing, with its target or velocity.
+// A machine's state. The handler is 65535 where there is none; the motion is 0 still, 1 a move, 2 a slew, and its value the target or the velocity.
 pub struct State {
     pub variables: [i32; 64],
     pub next: u16,

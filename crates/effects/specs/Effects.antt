@@ -26,7 +26,7 @@ storing vars v z = cond (inRange (rangeOf v (read vars 8) (read vars 9)) z) (Sto
 unfoldable pub storingResult : List ℤ → ℕ → ℤ → Effect
 storingResult vars v z = cond (inRange literals z) (storing vars v z) (Fails 101)
 
--- Text 17, Turn 9, Turn 10: what each operator gives; division goes toward zero.
+-- Text 17, Turn 9, Turn 10: what each operator gives; a quotient is cut toward zero.
 unfoldable pub operate : Operator → ℤ → ℤ → ℤ
 operate Plus x y = x +ℤ y
 operate Minus x y = x -ℤ y

@@ -76,7 +76,7 @@ fn bad_edition(s: &[u8]) -> bool
     crate::edition(s) != crate::THIS_EDITION
 }
 
-// The trailer's place, counts and whole length against each other, the image's length and the limits.
+// Whether the trailer's numbers go against each other or against the bytes that are there, or count more than there may be.
 fn bad_trailer(s: &[u8]) -> bool
     ensures { λ r. ⌜ r ≡ badTrailer (now (s .entry)) ⌝ }
 {
@@ -271,7 +271,7 @@ fn is_repeated(s: &[u8], cells: u16, labels: u16, k: u16) -> bool
     false
 }
 
-// A bad, reserved or repeated name.
+// A name that no line can declare, or that a record before has.
 fn bad_name(s: &[u8], cells: u16, labels: u16, k: u16) -> bool
     ensures { λ r. ⌜ r ≡ badKey cells labels (now (s .entry)) k ⌝ }
 {

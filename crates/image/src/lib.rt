@@ -40,7 +40,7 @@ const TARGET: usize = 12;
 
 const ZEROS: usize = 14;
 
-// Where the fields of the trailer stand after the place of the first label record.
+// Where the fields of the trailer stand behind its first, which says where the labels begin.
 const CELL_COUNT: usize = 4;
 
 const LABEL_COUNT: usize = 6;

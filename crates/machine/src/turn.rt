@@ -212,7 +212,7 @@ impl Machine {
         }
     }
 
-    // An error: on at the following cell, or to the handler, or with no place free for that the run stops.
+    // An error: on to the next cell, or to the handler, or with no place free for that the run stops.
     fn failed(self, error: u8) -> Turned
         requires { ⌜ self .next < 65535 ⌝ }
         ensures { λ r. ⌜ r ≡ failed error self ⌝ }

@@ -158,7 +158,7 @@ fn is_unknown_operand(s: &[u8], operand: Operand) -> bool
     }
 }
 
-// A cell names what the text does not declare, or first declares as the other kind.
+// A cell has a name with no declaration, or whose first is of another kind.
 fn is_undeclared(s: &[u8], cell: Cell) -> bool
     requires { ⌜ Keyed cell ⌝ }
     ensures { λ r. ⌜ r ≡ unknownCell (said (now (s .entry))) cell ⌝ }

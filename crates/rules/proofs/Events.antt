@@ -56,7 +56,7 @@ kinds-of e good =
     (either (inputEvent e) (arrivedEvent e || positionEvent e) (both (eqb (e .zeros) 0) (inputEvent e || (arrivedEvent e || positionEvent e)) good .1))
 
 module _ {cells variables : ℕ} {holds : ℕ → Bool} where
-  -- P (5) takes a value; a move to a target ends there.
+  -- P (5) takes a value, by a position or where a move arrives.
   position : {m : Machine} (z : ℤ) → T (inRange literals z) → Ruled cells variables holds m → Ruled cells variables holds (withVariables (set (m .variables) 5 z) m)
   unfolding rangeOf
   position z t r =

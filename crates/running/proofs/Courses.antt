@@ -151,7 +151,7 @@ module _ {s script : List ℕ} {budget : ℕ} {b₀ : List ℕ} where
       }
 
   module _ {b : List ℕ} {m : Machine} {t k at : ℕ} (u : Underway s script budget b₀ b m t k at) {cells : ℕ} (en : cells ≡ cellCount s) where
-    -- Turn 6: the next cell is past the last, or else the budget is used.
+    -- Turn 6: no cell is left, or else no turn.
     pub past-last : cells ≤ m .next → Ends 1 t at m (imageCourse s script budget) b₀ b
     past-last h = ended-as (rw (run-past s script budget t k m (omega arith)) at (u .written))
 

@@ -119,7 +119,7 @@ module _ {s script : List ℕ} {budget : ℕ} {b₀ : List ℕ} where
       }
 
   module _ {b : List ℕ} {m : Machine} {t k : ℕ} (u : Passing s script budget b₀ b m t k) {cells : ℕ} (en : cells ≡ cellCount s) where
-    -- Turn 6: the next cell is past the last, or the budget is used.
+    -- Turn 6: no cell is left, or no turn.
     pub visited-past : cells ≤ m .next → VisitedAs (imageVisits s script budget) t b₀ b
     visited-past h = all-marked (rw (none-past s script budget t k m (omega arith)) at (u .marked))
 

@@ -32,7 +32,7 @@ pub struct Ended {
 }
 
 impl Ended {
-    // Why a run ends: the next cell is past the last, an error finds no place free for the handler's call, the budget is used.
+    // Why a run ends: no cell is left, an error finds no place free for the handler's call, no turn is left.
     pub const PAST_THE_LAST: u8 = 1;
 
     pub const STOPPED: u8 = 2;

@@ -19,11 +19,11 @@ use Rattle.text.specs.declared.Fault.{Fault}
 unfoldable pub overlong : List ℕ → Bool
 overlong text = ltb 16384 (length text)
 
--- Refusals 2, Text 4: a line over 64 bytes.
+-- Refusals 2, Text 4: more than 64 bytes.
 unfoldable pub longLine : List ℕ → Bool
 longLine l = ltb 64 (length l)
 
--- Refusals 3, Text 10, Text 11: a bad byte or form.
+-- Refusals 3, Text 10, Text 11: a byte that no line may have, or no form.
 unfoldable pub badForm : List ℕ → Bool
 badForm l = elim (reading l) [ none ↦ true | some x ↦ false ]
 
@@ -40,7 +40,7 @@ bigIn (Label w) = false
 bigIn (Declared w z) = tooBig z
 bigIn (Acts s) = anyOf bigValue (operands s)
 
--- Refusals 4, Text 13: a literal outside its range.
+-- Refusals 4, Text 13: a literal too high or too low.
 unfoldable pub bigLiteral : List ℕ → Bool
 bigLiteral l = elim (reading l) [ none ↦ false | some x ↦ bigIn x ]
 
@@ -51,7 +51,7 @@ declares (Label w) = w ∷ []
 declares (Declared w z) = w ∷ []
 declares (Acts s) = []
 
--- Refusals 5, Text 12: LB or VA of a reserved name.
+-- Refusals 5, Text 12: a reserved name is declared.
 unfoldable pub reservedName : List ℕ → Bool
 reservedName l = elim (reading l) [ none ↦ false | some x ↦ anyOf reserved (declares x) ]
 
@@ -92,7 +92,7 @@ declaresIt w x = anyOf (eqList w) (declares x)
 unfoldable pub repeated : List Line → Line → Bool
 repeated before x = anyOf (λ w. anyOf (declaresIt w) before) (declares x)
 
--- Refusals 7, Variables 5: a cell, label or variable too many.
+-- Refusals 7, Variables 5: one cell, label or variable over the limit.
 unfoldable pub tooMany : List Line → Line → Bool
 tooMany before x =
     (makesCell x && leb mostCells (howMany makesCell before))
@@ -116,14 +116,14 @@ unknownIn text s =
     anyOf (λ n. not (firstMakes makesLabel n text)) (targets s)
     || (anyOf (unknownVariable text) (writes s) || anyOf (unknownValue text) (operands s))
 
--- Refusals 8: a name that is not declared, or first declared as the other kind.
+-- Refusals 8: a name with no declaration, or whose first is of another kind.
 unfoldable pub undeclared : List Line → Line → Bool
 undeclared text Blank = false
 undeclared text (Label w) = false
 undeclared text (Declared w z) = false
 undeclared text (Acts s) = unknownIn text s
 
--- Refusals 9: a read-only variable written.
+-- Refusals 9: a store to a variable that can only be read.
 unfoldable pub readOnlyWritten : Line → Bool
 readOnlyWritten Blank = false
 readOnlyWritten (Label w) = false
@@ -167,7 +167,7 @@ firstFrom line (rows ∷ more) =
 unfoldable pub firstFault : List ℕ → Fault
 firstFault text = firstFrom 1 (textFaults text)
 
--- Text 9, Image 9: the place of a label is the number of cell lines before the line that declares it.
+-- Text 9, Image 9: the place of a label, which counts the cells of the lines above its own.
 unfoldable pub placeOf : List Line → Name → ℕ
 placeOf [] w = 0
 placeOf (x ∷ xs) w =

@@ -90,7 +90,7 @@ literal (t ∷ u ∷ ts) =
     cond (digits t) (took (pos (decimal 0 (t .chars))) (u ∷ ts))
     (cond (eqList (t .chars) (ascii "-") && (t .glued && digits u)) (took (negℤ (pos (decimal 0 (u .chars)))) ts) none)
 
--- Text 16, Text 11: an operand is a literal or a variable of the paper's or the user's; a mnemonic is neither, nor is a user name of one letter.
+-- Text 16, Text 11: the words that can be an operand: the paper's variables and a user's names. So no mnemonic is one, and no other single letter.
 unfoldable pub variableName : Name → Bool
 variableName w = not (eqb (paperVariable w) 0) || userName w
 

@@ -11,7 +11,7 @@ unfoldable pub ontoFirstLine : ℕ → List (List ℕ) → List (List ℕ)
 ontoFirstLine b [] = (b ∷ []) ∷ []
 ontoFirstLine b (l ∷ ls) = (b ∷ l) ∷ ls
 
--- Text 2, Text 3: an LF (10) ends a line, the last line needs none and a final one starts no further line; one CR (13) directly before an LF is dropped.
+-- Text 2, Text 3: each LF (10) closes a line. What stands behind the last LF is a line too, if anything does. A CR (13) that an LF follows goes with it.
 unfoldable pub lines : List ℕ → List (List ℕ)
 lines [] = []
 lines (b ∷ bs) =

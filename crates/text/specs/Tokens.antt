@@ -32,7 +32,7 @@ unfoldable pub ontoFirstToken : ℕ → List Token → List Token
 ontoFirstToken c [] = []
 ontoFirstToken c (t ∷ ts) = record { chars = c ∷ t .chars; glued = t .glued } ∷ ts
 
--- Text 7, Text 10: the tokens are the longest runs of neighbours that belong together; spaces (32) only separate them.
+-- Text 7, Text 10: the tokens are the longest runs of neighbours that belong together; a space (32) belongs to none.
 unfoldable pub tokens : List ℕ → List Token
 tokens [] = []
 tokens (c ∷ cs) =
