@@ -46,7 +46,7 @@ static int symbol(struct cursor *c, u8 s) {
     return 1;
 }
 
-/* A word of one or two characters; 0 where none stands here. */
+/* A word, one or two characters long; 0 where none stands here. */
 static u16 word(struct cursor *c) {
     skip(c);
     const u8 *p = c->at;
