@@ -9,17 +9,15 @@ use native.Mathlib.Omega.{arith}
 use borrow.Author.Tests.{ltb-true, ltb-false, eqb-true, eqb-false}
 use lib.Dec.{eqb, ltb}
 use lib.ListN.{length}
-use Rattle.numbers.specs.Tests.{lowest}
+use Rattle.numbers.specs.Tests.{lowest, NoRow}
 use Rattle.text.specs.Faults.{overlong, firstFault}
 use Rattle.image.specs.Check.{imageFaults, checked}
 use Rattle.refusals.proofs.Lowest.{lowest-range, lowest-exactly, lowest-zero}
-use Rattle.refusals.proofs.Rows.{fault-range}
-use Rattle.refusals.proofs.First.{first-exactly-at, first-none}
+use Rattle.refusals.proofs.First.{first-none, Given, first-given}
 use Rattle.translation.specs.Images.{image}
 use Rattle.bench.specs.Translating.{answered}
 use Rattle.bench.specs.Running.{checkedAs, refusedAs, bigBudget, smallRoom, runFaults}
-use Rattle.bench.specs.Demands.{Translation, Translate, Check, Outcome, Run, NoRow, TextRefused, RunRefused, Demand1, Demand2, ourTranslate, ourCheck, ourRun}
-use Rattle.bench.proofs.Texts.{clean-bytes}
+use Rattle.bench.specs.Demands.{Translation, Translate, Check, Outcome, Run, TextRefused, RunRefused, Demand1, Demand2, ourTranslate, ourCheck, ourRun}
 use Rattle.bench.proofs.Demands.{sound-accepted, ours-fits, text-refused, image-refused, image-numbers, run-refused, run-accepted}
 
 module _ (translate : Translate) (check : Check) (run : Run) (one : Demand1 translate check run) (two : Demand2 translate check run) where
@@ -65,31 +63,28 @@ module _ (translate : Translate) (check : Check) (run : Run) (one : Demand1 tran
         → translate text buffer ≡ ourTranslate text buffer
     by-room true e short clean =
         let few = ltb-true (length buffer) (length (image text)) e in
-        let a = theirs .ten .1 (short, first-none text .0 clean, few) in
-        let b = ours .ten .1 (short, first-none text .0 clean, few) in
+        let a = theirs .number-10 .1 (short, first-none text .0 clean, few) in
+        let b = ours .number-10 .1 (short, first-none text .0 clean, few) in
         both-settled 10 0 (λ z. absurd (omega arith)) a (theirs .line-10 a) b (ours .line-10 b)
     by-room false e short clean =
         let ok = sound-accepted text short clean in
         let room = ltb-false (length buffer) (length (image text)) e in
-        two .laid-out text buffer (clean-bytes text clean) ok room ∙ sym (ours-fits text buffer ok room)
+        two .laid-out text buffer ok room ∙ sym (ours-fits text buffer ok room)
 
-    by-fault : (n : ℕ) → firstFault text .number ≡ n → overlong text ≡ false → translate text buffer ≡ ourTranslate text buffer
-    by-fault zero e short = by-room (ltb (length buffer) (length (image text))) refl short e
-    by-fault (suc m) e short =
-        let n = firstFault text .number in
+    by-fault : (firstFault text .number ≡ 0) ⊎ Given text (firstFault text) → overlong text ≡ false → translate text buffer ≡ ourTranslate text buffer
+    by-fault (inl e) short = by-room (ltb (length buffer) (length (image text))) refl short e
+    by-fault (inr g) short =
         let l = firstFault text .line in
-        let first = first-exactly-at text n l (omega arith) .0 refl in
-        let range = fault-range text n l (first .0) in
-        let a = theirs .faulty n l (range .0) (range .1) .1 (short, first) in
-        let b = ours .faulty n l (range .0) (range .1) .1 (short, first) in
-        both-settled n l (λ z. absurd (omega arith)) (a .0) (a .1) (b .0) (b .1)
+        let a = theirs .faulty (g .row) l (g .possible .0) .1 (short, g .first) in
+        let b = ours .faulty (g .row) l (g .possible .0) .1 (short, g .first) in
+        both-settled (2 + g .row) l (λ z. absurd (omega arith)) (a .0) (a .1) (b .0) (b .1)
 
     by-size : (b : Bool) → overlong text ≡ b → translate text buffer ≡ ourTranslate text buffer
     by-size true e =
-        let a = theirs .one .1 e in
-        let b = ours .one .1 e in
+        let a = theirs .number-1 .1 e in
+        let b = ours .number-1 .1 e in
         both-settled 1 0 (λ z. absurd (omega arith)) a (theirs .line-1 a) b (ours .line-1 b)
-    by-size false e = by-fault (firstFault text .number) refl e
+    by-size false e = by-fault (first-given text) e
 
     pub translate-decided : translate text buffer ≡ ourTranslate text buffer
     translate-decided = by-size (overlong text) refl

@@ -3,25 +3,24 @@
 use mathlib.Core.Path.{_≡_, refl, sym, subst, ap, ap₂, _∙_}
 use mathlib.Core.Bool.{Bool, true, false, _&&_, not, true≢false, false≢true}
 use mathlib.Core.List.{List, [], _∷_, _++_}
-use mathlib.Core.Logic.{_↔_, ⊎-elim}
+use mathlib.Core.Logic.{_↔_, _⊎_, inl, inr, ⊎-elim}
 use Prim.Native.Nat.{ℕ, zero, suc, _+_, _*_, _≤_, _<_}
 use native.Mathlib.Omega.{arith}
 use borrow.Author.Tests.{ltb-true, ltb-false, le-ltb, eqb-true, eqb-false, ne-eqb}
 use lib.Dec.{eqb, ltb}
 use lib.ListN.{length, take, drop}
 use lib.Seq.{take-at}
-use Rattle.numbers.specs.Tests.{lowest}
+use Rattle.numbers.specs.Tests.{lowest, Lowest, NoRow}
 use Rattle.text.specs.declared.Fault.{Fault}
 use Rattle.text.specs.Faults.{overlong, fault, firstFault}
 use Rattle.image.specs.Check.{badLength, badEdition, badTrailer, badCells, badRecords, imageFaults, checked}
 use Rattle.machine.specs.Events.{badScript, badEvent, badEvents, firstBadEvent, eventCount, events}
-use Rattle.machine.specs.Run.{Course}
-use Rattle.running.specs.Courses.{cellActs, imageCourse, over}
+use Rattle.machine.specs.Run.{Course, over}
+use Rattle.running.specs.Courses.{cellActs, imageCourse}
 use Rattle.translation.specs.Images.{image, accepted}
 use Rattle.machine.proofs.Scripts.{bad-events}
 use Rattle.refusals.proofs.Lowest.{lowest-range, lowest-exactly, lowest-zero, first-exactly}
-use Rattle.refusals.proofs.Rows.{fault-range}
-use Rattle.refusals.proofs.First.{first-exactly-at, first-none}
+use Rattle.refusals.proofs.First.{first-exactly-at, first-none, Given, first-given}
 use Rattle.listing.specs.Listing.{listing}
 use Rattle.listing.proofs.Back.{listing-accepted}
 use Rattle.listing.proofs.Image.{listing-image}
@@ -34,7 +33,7 @@ use Rattle.bench.specs.Calls.{Translates, Checks, Runs}
 use Rattle.bench.specs.declared.Translated.{Translated}
 use Rattle.bench.specs.declared.Checked.{Checked}
 use Rattle.bench.specs.declared.Ran.{Ran}
-use Rattle.bench.specs.Demands.{Bytes, Translation, given, Lowest, NoRow, FirstFault, FirstBad, TextRefused, ImageRefused, RunRefused, TurnsInto, Demand1, Demand2, Demand3, ourTranslate, ourCheck, ourRun}
+use Rattle.bench.specs.Demands.{Bytes, Translation, given, FirstFault, FirstBad, TextRefused, ImageRefused, RunRefused, TurnsInto, Demand1, Demand2, Demand3, ourTranslate, ourCheck, ourRun}
 use Rattle.bench.proofs.Texts.{clean-bytes}
 
 -- The promises of the calls (Calls.antt) say exactly that they are these functions.
@@ -120,10 +119,10 @@ module _ (text buffer : List ℕ) (t : Translation) where
       let l : t .answer .line ≡ 0 = ap (λ (a : Translated). a .line) e in
       let k : t .answer .length ≡ 0 = ap (λ (a : Translated). a .length) e in
       record {
-        one = (λ q. o, λ q. n);
-        faulty = λ m j low high. (λ q. let z = q .0 in absurd (omega arith), λ q. absurd (true≢false (sym o ∙ q .0)));
-        ten = (λ q. absurd (omega arith), λ q. absurd (true≢false (sym o ∙ q .0)));
-        none = (λ q. absurd (omega arith), λ q. absurd (true≢false (sym o ∙ q .0)));
+        number-1 = (λ q. o, λ q. n);
+        faulty = λ k j high. (λ q. let z = q .0 in absurd (omega arith), λ q. absurd (true≢false (sym o ∙ q .0)));
+        number-10 = (λ q. absurd (omega arith), λ q. absurd (true≢false (sym o ∙ q .0)));
+        number-0 = (λ q. absurd (omega arith), λ q. absurd (true≢false (sym o ∙ q .0)));
         line-1 = λ q. l;
         line-10 = λ q. l;
         line-0 = λ q. l;
@@ -133,25 +132,23 @@ module _ (text buffer : List ℕ) (t : Translation) where
       }
 
   module _ (short : overlong text ≡ false) where
-    fault-case : (n : ℕ) → firstFault text .number ≡ suc n → t .answer ≡ answered (firstFault text .number) (firstFault text .line) 0 → t .image ≡ buffer → TextRefused text buffer t
-    fault-case m f e i =
+    fault-case : Given text (firstFault text) → t .answer ≡ answered (firstFault text .number) (firstFault text .line) 0 → t .image ≡ buffer → TextRefused text buffer t
+    fault-case g e i =
         let n : t .answer .number ≡ firstFault text .number = ap (λ (a : Translated). a .number) e in
         let l : t .answer .line ≡ firstFault text .line = ap (λ (a : Translated). a .line) e in
         let k : t .answer .length ≡ 0 = ap (λ (a : Translated). a .length) e in
-        let first = first-exactly-at text (firstFault text .number) (firstFault text .line) (omega arith) .0 refl in
-        let range = fault-range text (firstFault text .number) (firstFault text .line) (first .0) in
-        let low = range .0 in
-        let high = range .1 in
+        let r = g .number in
+        let low = g .possible .0 in
         record {
-          one = (λ q. absurd (omega arith), λ q. absurd (true≢false (sym q ∙ short)));
-          faulty = λ m′ j low′ high′. (
-            λ q. (short, first-exactly-at text m′ j (omega arith) .0 (ap₂ fault (sym n ∙ q .0) (sym l ∙ q .1))),
+          number-1 = (λ q. absurd (omega arith), λ q. absurd (true≢false (sym q ∙ short)));
+          faulty = λ m j high. (
+            λ q. (short, first-exactly-at text m j .0 (ap₂ fault (sym n ∙ q .0) (sym l ∙ q .1))),
             λ q.
-                let g = first-exactly-at text m′ j (omega arith) .1 (q .1) in
-                (n ∙ ap (λ (x : Fault). x .number) g, l ∙ ap (λ (x : Fault). x .line) g),
+                let f = first-exactly-at text m j .1 (q .1) in
+                (n ∙ ap (λ (x : Fault). x .number) f, l ∙ ap (λ (x : Fault). x .line) f),
           );
-          ten = (λ q. absurd (omega arith), λ q. let z = first-none text .1 (q .1) in absurd (omega arith));
-          none = (λ q. absurd (omega arith), λ q. let z = first-none text .1 (q .1) in absurd (omega arith));
+          number-10 = (λ q. absurd (omega arith), λ q. let z = first-none text .1 (q .1) in absurd (omega arith));
+          number-0 = (λ q. absurd (omega arith), λ q. let z = first-none text .1 (q .1) in absurd (omega arith));
           line-1 = λ q. absurd (omega arith);
           line-10 = λ q. absurd (omega arith);
           line-0 = λ q. absurd (omega arith);
@@ -161,8 +158,8 @@ module _ (text buffer : List ℕ) (t : Translation) where
         }
 
     module _ (clean : firstFault text .number ≡ 0) where
-      not-first : (n l : ℕ) → 2 ≤ n → FirstFault text n l → ⊥
-      not-first n l low c = let z : firstFault text .number ≡ n = ap (λ (x : Fault). x .number) (first-exactly-at text n l (omega arith) .1 c) in omega arith
+      not-first : (k l : ℕ) → FirstFault text k l → ⊥
+      not-first k l c = let z : firstFault text .number ≡ 2 + k = ap (λ (x : Fault). x .number) (first-exactly-at text k l .1 c) in omega arith
 
       short-case : length buffer < length (image text) → t .answer ≡ answered 10 0 0 → t .image ≡ buffer → TextRefused text buffer t
       short-case h e i =
@@ -170,10 +167,10 @@ module _ (text buffer : List ℕ) (t : Translation) where
           let l : t .answer .line ≡ 0 = ap (λ (a : Translated). a .line) e in
           let k : t .answer .length ≡ 0 = ap (λ (a : Translated). a .length) e in
           record {
-            one = (λ q. absurd (omega arith), λ q. absurd (true≢false (sym q ∙ short)));
-            faulty = λ m j low high. (λ q. let z = q .0 in absurd (omega arith), λ q. absurd (not-first m j low (q .1)));
-            ten = (λ q. (short, first-none text .0 clean, h), λ q. n);
-            none = (λ q. absurd (omega arith), λ q. let z = q .2 in absurd (omega arith));
+            number-1 = (λ q. absurd (omega arith), λ q. absurd (true≢false (sym q ∙ short)));
+            faulty = λ k j high. (λ q. let z = q .0 in absurd (omega arith), λ q. absurd (not-first k j (q .1)));
+            number-10 = (λ q. (short, first-none text .0 clean, h), λ q. n);
+            number-0 = (λ q. absurd (omega arith), λ q. let z = q .2 in absurd (omega arith));
             line-1 = λ q. l;
             line-10 = λ q. l;
             line-0 = λ q. l;
@@ -187,10 +184,10 @@ module _ (text buffer : List ℕ) (t : Translation) where
           let n : t .answer .number ≡ 0 = ap (λ (a : Translated). a .number) e in
           let l : t .answer .line ≡ 0 = ap (λ (a : Translated). a .line) e in
           record {
-            one = (λ q. absurd (omega arith), λ q. absurd (true≢false (sym q ∙ short)));
-            faulty = λ m j low high. (λ q. let z = q .0 in absurd (omega arith), λ q. absurd (not-first m j low (q .1)));
-            ten = (λ q. absurd (omega arith), λ q. let z = q .2 in absurd (omega arith));
-            none = (λ q. (short, first-none text .0 clean, h), λ q. n);
+            number-1 = (λ q. absurd (omega arith), λ q. absurd (true≢false (sym q ∙ short)));
+            faulty = λ k j high. (λ q. let z = q .0 in absurd (omega arith), λ q. absurd (not-first k j (q .1)));
+            number-10 = (λ q. absurd (omega arith), λ q. let z = q .2 in absurd (omega arith));
+            number-0 = (λ q. (short, first-none text .0 clean, h), λ q. n);
             line-1 = λ q. l;
             line-10 = λ q. l;
             line-0 = λ q. l;
@@ -213,21 +210,21 @@ module _ (text buffer : List ℕ) where
   by-room false r short clean =
       fits-case text buffer (ourTranslate text buffer) short clean (ltb-false (length buffer) (length (image text)) r) (rw (short, clean, r) refl)
 
-  by-fault : (n : ℕ) → firstFault text .number ≡ n → overlong text ≡ false → TextRefused text buffer (ourTranslate text buffer)
+  by-fault : (firstFault text .number ≡ 0) ⊎ Given text (firstFault text) → overlong text ≡ false → TextRefused text buffer (ourTranslate text buffer)
   unfolding translated
-  by-fault zero f short = by-room (ltb (length buffer) (length (image text))) refl short f
-  by-fault (suc n) f short =
+  by-fault (inl f) short = by-room (ltb (length buffer) (length (image text))) refl short f
+  by-fault (inr g) short =
+      let some : firstFault text .number ≡ 0 → ⊥ = λ z. let r = g .number in absurd (omega arith) in
       let e : translated text (length buffer) ≡ answered (firstFault text .number) (firstFault text .line) 0 =
-      rw (short, ne-eqb (firstFault text .number) 0 (λ z. absurd (omega arith))) refl in
-      fault-case text buffer (ourTranslate text buffer) short n f e
-      (kept (firstFault text .number) (ap (λ (a : Translated). a .number) e) (λ z. absurd (omega arith)))
+      rw (short, ne-eqb (firstFault text .number) 0 some) refl in
+      fault-case text buffer (ourTranslate text buffer) short g e (kept (firstFault text .number) (ap (λ (a : Translated). a .number) e) some)
 
   by-size : (b : Bool) → overlong text ≡ b → TextRefused text buffer (ourTranslate text buffer)
   unfolding translated
   by-size true o =
       let e : translated text (length buffer) ≡ answered 1 0 0 = rw o refl in
       over-case text buffer (ourTranslate text buffer) o e (kept 1 (ap (λ (a : Translated). a .number) e) (λ z. absurd (omega arith)))
-  by-size false o = by-fault (firstFault text .number) refl o
+  by-size false o = by-fault (first-given text) o
 
   pub text-refused : TextRefused text buffer (ourTranslate text buffer)
   text-refused = by-size (overlong text) refl
@@ -384,7 +381,7 @@ module _ (s : List ℕ) (byte : Bytes s) where
   unlisted : (text : List ℕ) → accepted text ≡ true → TurnsInto ourTranslate text s → checked s ≡ 0
   unlisted text ok f =
       let r = f s (omega arith) in
-      let room : length (image text) ≤ length s = text-refused text s .none .0 (r .0) .2 in
+      let room : length (image text) ≤ length s = text-refused text s .number-0 .0 (r .0) .2 in
       let size : length (image text) ≡ length s = sym (ap (λ (t : Translated). t .length) (translated-fits text s ok room)) ∙ r .1 in
       let same : image text ≡ s =
       sym (take-at (image text) (drop (length (image text)) s) (length s) size)
@@ -396,8 +393,8 @@ pub demand2 : Demand2 ourTranslate ourCheck ourRun
 unfolding checkedAs
 demand2 =
     record {
-      laid-out = λ text buffer byte ok room. ours-fits text buffer ok room;
-      taken = λ text byte ok. image-checked text ok;
+      laid-out = λ text buffer ok room. ours-fits text buffer ok room;
+      taken = λ text ok. image-checked text ok;
       from-text = λ s byte. (listed s byte, λ c. unlisted s byte (c .0) (c .2) (c .3));
       turn-by-turn = λ s script budget buffer good whole fine low room. run-accepted s script budget buffer good whole fine low room;
     }

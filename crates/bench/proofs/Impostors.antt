@@ -21,32 +21,32 @@ use Rattle.machine.specs.Events.{badScript, badEvents}
 use Rattle.machine.specs.Run as R
 use Rattle.machine.specs.Turn as Turn
 use Rattle.running.specs.Courses as Courses
-use Rattle.running.specs.Courses.{imageCourse, over}
+use Rattle.running.specs.Courses.{imageCourse}
+use Rattle.machine.specs.Run.{over}
 use Rattle.translation.specs.Images.{image, accepted}
 use Rattle.refusals.proofs.First.{first-none}
 use Rattle.agreement.proofs.Checked.{image-checked, image-most}
 use Rattle.bench.specs.Translating.{answered, translated, translatedInto}
 use Rattle.bench.specs.Running as Running
-use Rattle.bench.specs.Running.{checkedAs, stateOf, ran, ranInto}
+use Rattle.bench.specs.Running.{checkedAs, stateOf, ran, ranInto, ranAs}
 use Rattle.bench.specs.Following.{followed}
 use Rattle.bench.specs.Calls.{Translates, Checks, Runs}
 use Rattle.bench.specs.declared.Translated.{Translated}
 use Rattle.bench.specs.declared.Checked.{Checked}
 use Rattle.bench.specs.declared.State.{State}
 use Rattle.bench.specs.declared.Ran.{Ran}
-use Rattle.bench.specs.Demands.{Bytes, Translation, Translate, Check, Outcome, Run, given, Demand2, Demand3, ourRun}
+use Rattle.bench.specs.Demands.{Translation, Translate, Check, Outcome, Run, given, Demand2, Demand3, ourRun}
 use Rattle.bench.specs.Sheet.{fresh, feeder, feederImage, feederRecords, twoArrivals, trailer0, sheet-holds}
-use Rattle.bench.proofs.Texts.{clean-bytes}
-use Rattle.bench.proofs.Demands.{sound, sound-accepted, text-refused, translated-fits, into-fits, run-accepted}
+use Rattle.bench.proofs.Demands.{sound-accepted, text-refused, translated-fits, into-fits, run-accepted}
 
 -- What a row of the sheet says of its text: it is accepted, and this is its image.
 pub row-accepted : (text : List ℕ) (n : ℕ) → translated text 128 ≡ answered 0 0 n → accepted text ≡ true
 row-accepted text n e =
-    let c = text-refused text (fresh 128) .none .0 (ap (λ (a : Translated). a .number) e) in
+    let c = text-refused text (fresh 128) .number-0 .0 (ap (λ (a : Translated). a .number) e) in
     sound-accepted text (c .0) (first-none text .1 (c .1))
 
 pub row-room : (text : List ℕ) (n : ℕ) → translated text 128 ≡ answered 0 0 n → length (image text) ≤ 128
-row-room text n e = text-refused text (fresh 128) .none .0 (ap (λ (a : Translated). a .number) e) .2
+row-room text n e = text-refused text (fresh 128) .number-0 .0 (ap (λ (a : Translated). a .number) e) .2
 
 pub row-image : (text s : List ℕ) → translated text 128 ≡ answered 0 0 (length s) → translatedInto text (fresh 128) ≡ s ++ fresh (128 - length s) → image text ≡ s
 row-image text s e i =
@@ -73,9 +73,6 @@ empty-accepted = row-accepted [] 16 (sheet-holds .1 .1 .1 .0 .0)
 empty-image : image [] ≡ trailer0
 empty-image = row-image [] trailer0 (sheet-holds .1 .1 .1 .0 .0) (sheet-holds .1 .1 .1 .0 .1)
 
-pub accepted-bytes : (text : List ℕ) → accepted text ≡ true → Bytes text
-accepted-bytes text ok = clean-bytes text (sound text ok .clean)
-
 script-whole : badScript twoArrivals ≡ false
 unfolding Events.badScript Events.eventCount
 script-whole = refl
@@ -95,21 +92,53 @@ pub refuses-all : (translate : Translate) (check : Check) (run : Run)
     → ((text buffer : List ℕ) → translate text buffer .answer .number ≡ 0 → ⊥) → Demand2 translate check run → ⊥
 refuses-all translate check run refuses d =
     refuses [] (fresh 128) (ap (λ (t : Translation). t .answer .number)
-    (d .laid-out [] (fresh 128) (accepted-bytes [] empty-accepted) empty-accepted (row-room [] 16 (sheet-holds .1 .1 .1 .0 .0))))
+    (d .laid-out [] (fresh 128) empty-accepted (row-room [] 16 (sheet-holds .1 .1 .1 .0 .0))))
+
+-- A translator that takes every text and gives each the image of the empty text (row d), in every buffer that has room for it, with any line.
+abbrev GivesEmpty : Translate → Type 0
+GivesEmpty translate =
+    (text buffer : List ℕ) → 16 ≤ length buffer → (translate text buffer .answer .number ≡ 0) × (given (translate text buffer) ≡ image [])
+
+-- Shut out by demand 2's layout, at the feeder, whose image has 116 bytes and not 16.
+pub empty-image-for-all : (translate : Translate) (check : Check) (run : Run) → GivesEmpty translate → Demand2 translate check run → ⊥
+empty-image-for-all translate check run empty d =
+    let laid : given (translate feeder (fresh 128)) ≡ image feeder =
+    ap given (d .laid-out feeder (fresh 128) feeder-accepted feeder-room)
+    ∙ take-at (image feeder) (drop (length (image feeder)) (fresh 128)) (length (image feeder)) refl in
+    let z : _≡_ {A = ℕ} 116 16 =
+    ap length (sym feeder-image ∙ sym laid ∙ empty feeder (fresh 128) (omega arith) .1 ∙ empty-image) in
+    omega arith
+
+-- And by demand 3 with our own run, at the feeder: the empty image runs for no turn, the text for 13.
+no-turns : ourRun (image []) twoArrivals 20 (fresh 240) .answer .turns ≡ 0
+unfolding Running.ranAs Courses.imageCourse Courses.cellActs Layout.cellCount Layout.trailerPlace B.field B.number R.runFrom Turn.startMachine
+no-turns =
+    ap (λ (o : Outcome). o .answer .turns)
+    (run-accepted (image []) twoArrivals 20 (fresh 240) (image-checked [] empty-accepted) script-whole script-fine (omega arith) (omega arith))
+    ∙ ap (λ (s : List ℕ). ranAs (imageCourse s twoArrivals 20) .turns) empty-image
+
+pub empty-image-run : (translate : Translate) → GivesEmpty translate → Demand3 translate ourRun → ⊥
+empty-image-run translate empty d =
+    let e = d .one-thing feeder (fresh 128) twoArrivals 20 (fresh 240) feeder-accepted feeder-room script-whole script-fine (omega arith) (omega arith) in
+    let z : _≡_ {A = ℕ} 0 13 =
+    sym no-turns
+    ∙ ap (λ (s : List ℕ). ourRun s twoArrivals 20 (fresh 240) .answer .turns) (sym (empty feeder (fresh 128) (omega arith) .1))
+    ∙ ap (λ (o : Outcome). o .answer .turns) e
+    ∙ ap (λ (a : Ran). a .turns) (sheet-holds .1 .0 .2 .0 .2) in
+    omega arith
 
 -- A translator that gives no text any bytes, with any number, line and buffer: by demand 2, at the empty text.
-pub empty-images : (translate : Translate) (check : Check) (run : Run)
+pub no-image : (translate : Translate) (check : Check) (run : Run)
     → ((text buffer : List ℕ) → translate text buffer .answer .length ≡ 0) → Demand2 translate check run → ⊥
-empty-images translate check run empty d =
+no-image translate check run empty d =
     let e : translate [] (fresh 128) .answer .length ≡ length (image []) =
-    ap (λ (t : Translation). t .answer .length)
-    (d .laid-out [] (fresh 128) (accepted-bytes [] empty-accepted) empty-accepted (row-room [] 16 (sheet-holds .1 .1 .1 .0 .0))) in
+    ap (λ (t : Translation). t .answer .length) (d .laid-out [] (fresh 128) empty-accepted (row-room [] 16 (sheet-holds .1 .1 .1 .0 .0))) in
     no-empty-image (image []) (sym e ∙ empty [] (fresh 128)) (image-checked [] empty-accepted)
 
 -- And by demand 3, with the bench's own run: the text's own run is not refused.
-pub empty-images-run : (translate : Translate) → ((text buffer : List ℕ) → translate text buffer .answer .length ≡ 0) → Demand3 translate ourRun → ⊥
+pub no-image-run : (translate : Translate) → ((text buffer : List ℕ) → translate text buffer .answer .length ≡ 0) → Demand3 translate ourRun → ⊥
 unfolding Running.ran Running.runRefusal Running.refusedAs Running.ranAs Running.refusalIndex followed Check.checked Check.imageFaults Check.badLength Tests.lowest Events.badScript Events.eventCount Events.badEvents Tests.anyBelow
-empty-images-run translate empty d =
+no-image-run translate empty d =
     let e = d .one-thing [] (fresh 128) [] 0 [] empty-accepted (row-room [] 16 (sheet-holds .1 .1 .1 .0 .0)) refl refl (omega arith) (omega arith) in
     let nothing : given (translate [] (fresh 128)) ≡ [] = rw (empty [] (fresh 128)) refl in
     let z : _≡_ {A = ℕ} 21 0 = ap (λ (o : Outcome). o .answer .number) (ap (λ (s : List ℕ). ourRun s [] 0 []) (sym nothing) ∙ e) in
@@ -121,7 +150,7 @@ takes-all translate check run takes d =
     let c = d .from-text [] (λ k. omega arith) .0 (takes []) in
     let buffer : List ℕ = replicate 5008 0 in
     let room : length (image (c .0)) ≤ length buffer = image-most (c .0) (c .2) in
-    let e : translate (c .0) buffer .answer .length ≡ length (image (c .0)) = ap (λ (t : Translation). t .answer .length) (d .laid-out (c .0) buffer (c .1) (c .2) room) in
+    let e : translate (c .0) buffer .answer .length ≡ length (image (c .0)) = ap (λ (t : Translation). t .answer .length) (d .laid-out (c .0) buffer (c .2) room) in
     no-empty-image (image (c .0)) (sym e ∙ c .3 buffer (omega arith) .1) (image-checked (c .0) (c .2))
 
 -- What demand 2 fixes for a runner: on the feeder's image it gives what the sheet says, whatever translator and checker stand beside it.
@@ -131,7 +160,7 @@ module _ (translate : Translate) (check : Check) (run : Run) (d : Demand2 transl
 
   feeder-run : outcome ≡ ourRun (image feeder) twoArrivals 20 (fresh 240)
   feeder-run =
-      d .turn-by-turn (image feeder) twoArrivals 20 (fresh 240) (d .taken feeder (accepted-bytes feeder feeder-accepted) feeder-accepted) script-whole script-fine (omega arith) (omega arith)
+      d .turn-by-turn (image feeder) twoArrivals 20 (fresh 240) (d .taken feeder feeder-accepted) script-whole script-fine (omega arith) (omega arith)
       ∙ sym (run-accepted (image feeder) twoArrivals 20 (fresh 240) (image-checked feeder feeder-accepted) script-whole script-fine (omega arith) (omega arith))
 
   feeder-records : outcome .records ≡ feederRecords ++ fresh 204
@@ -155,11 +184,11 @@ writes-nothing translate check run nothing d =
 
 -- The feeder's first turn, by computation: one record, and the next cell is 1.
 one-turn-records : getD (over (imageCourse feederImage twoArrivals 1) (fresh 240)) 12 0 ≡ 170
-unfolding Bits.digits32 Bits.signed32 Bits.eachDigit Bits.on32 B.bytes B.number B.field Tests.eqZ Tests.listed Tests.allOf Tests.anyOf Cells.noTarget Cells.operandOf Cells.jumpOf Cells.valueOf Cells.conditionOf Cells.holdOf Cells.statementBy Cells.statementOf Variables.rangeOf Variables.startVariables Variables.allInputs Layout.operandNumber Layout.trailerPlace Layout.cellCount Layout.labelCount Layout.variableCount Layout.operandAt Layout.cellAt Layout.labelPlace Layout.variablePlace Layout.startValue Layout.startValues Layout.firstLabelPlace Effects.read Effects.storing Effects.storingResult Effects.moving Effects.value Effects.effect Events.eventAt Events.eventCount Events.events Events.happens Events.recordBytes R.reach R.runFrom Turn.startMachine Turn.keep Turn.lastPlace Turn.movingBit Turn.inMotion Turn.turn Courses.cellActs Courses.imageCourse Courses.over Running.stateOf
+unfolding Bits.digits32 Bits.signed32 Bits.eachDigit Bits.on32 B.bytes B.number B.field Tests.eqZ Tests.listed Tests.allOf Tests.anyOf Cells.noTarget Cells.operatorNumber Cells.comparisonNumber Cells.operatorOf Cells.comparisonOf Cells.operandOf Cells.jumpOf Cells.valueOf Cells.conditionOf Cells.holdOf Cells.statementBy Cells.statementOf Variables.rangeOf Variables.startVariables Variables.allInputs Layout.operandNumber Layout.trailerPlace Layout.cellCount Layout.labelCount Layout.variableCount Layout.operandAt Layout.cellAt Layout.labelPlace Layout.variablePlace Layout.startValue Layout.startValues Layout.firstLabelPlace Effects.read Effects.storing Effects.storingResult Effects.moving Effects.value Effects.effect Events.eventAt Events.eventCount Events.events Events.happens Events.recordBytes R.reach R.runFrom Turn.noHandler Turn.startMachine Turn.keep Turn.lastPlace Turn.movingBit Turn.inMotion Turn.turn Courses.cellActs Courses.imageCourse R.over Running.stateOf
 one-turn-records = refl
 
 one-turn-next : stateOf (imageCourse feederImage twoArrivals 1 .machine) .next ≡ 1
-unfolding Bits.digits32 Bits.signed32 Bits.eachDigit Bits.on32 B.bytes B.number B.field Tests.eqZ Tests.listed Tests.allOf Tests.anyOf Cells.noTarget Cells.operandOf Cells.jumpOf Cells.valueOf Cells.conditionOf Cells.holdOf Cells.statementBy Cells.statementOf Variables.rangeOf Variables.startVariables Variables.allInputs Layout.operandNumber Layout.trailerPlace Layout.cellCount Layout.labelCount Layout.variableCount Layout.operandAt Layout.cellAt Layout.labelPlace Layout.variablePlace Layout.startValue Layout.startValues Layout.firstLabelPlace Effects.read Effects.storing Effects.storingResult Effects.moving Effects.value Effects.effect Events.eventAt Events.eventCount Events.events Events.happens Events.recordBytes R.reach R.runFrom Turn.startMachine Turn.keep Turn.lastPlace Turn.movingBit Turn.inMotion Turn.turn Courses.cellActs Courses.imageCourse Courses.over Running.stateOf
+unfolding Bits.digits32 Bits.signed32 Bits.eachDigit Bits.on32 B.bytes B.number B.field Tests.eqZ Tests.listed Tests.allOf Tests.anyOf Cells.noTarget Cells.operatorNumber Cells.comparisonNumber Cells.operatorOf Cells.comparisonOf Cells.operandOf Cells.jumpOf Cells.valueOf Cells.conditionOf Cells.holdOf Cells.statementBy Cells.statementOf Variables.rangeOf Variables.startVariables Variables.allInputs Layout.operandNumber Layout.trailerPlace Layout.cellCount Layout.labelCount Layout.variableCount Layout.operandAt Layout.cellAt Layout.labelPlace Layout.variablePlace Layout.startValue Layout.startValues Layout.firstLabelPlace Effects.read Effects.storing Effects.storingResult Effects.moving Effects.value Effects.effect Events.eventAt Events.eventCount Events.events Events.happens Events.recordBytes R.reach R.runFrom Turn.noHandler Turn.startMachine Turn.keep Turn.lastPlace Turn.movingBit Turn.inMotion Turn.turn Courses.cellActs Courses.imageCourse R.over Running.stateOf
 one-turn-next = refl
 
 -- A runner that takes the first turn and no other: the records of the first turn alone, with any answer; and the state after the first turn, with any records.

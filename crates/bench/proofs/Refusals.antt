@@ -12,10 +12,10 @@ use Rattle.numbers.specs.Tests.{lowest}
 use Rattle.image.specs.Check.{checked, imageFaults, badLength, badEdition, badTrailer, badCells, badRecords}
 use Rattle.machine.specs.declared.Machine.{Machine}
 use Rattle.machine.specs.Events.{badScript, badEvents, firstBadEvent, eventCount}
-use Rattle.machine.specs.Run.{Course}
+use Rattle.machine.specs.Run.{Course, over}
 use Rattle.machine.proofs.Scripts.{bad-events}
 use Rattle.running.specs.declared.Ended.{Ended}
-use Rattle.running.specs.Courses.{imageCourse, over}
+use Rattle.running.specs.Courses.{imageCourse}
 use Rattle.running.specs.Code.{EndedAs}
 use Rattle.bench.specs.declared.Ran.{Ran}
 use Rattle.bench.specs.declared.State.{State}

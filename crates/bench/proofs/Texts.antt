@@ -68,4 +68,4 @@ clean-bytes text e =
     (all-by (allOf printable) [] (lines text)
     (λ i h.
     let y : suc i - 1 ≡ i = omega arith in
-    formed (getD (lines text) i []) (rw y at (sym (row-3 text (suc i) (omega arith) h) ∙ first-none text .0 e 3 (suc i)))))
+    formed (getD (lines text) i []) (rw y at (sym (row-3 text (suc i) (omega arith) h) ∙ first-none text .0 e (suc i) 1))))

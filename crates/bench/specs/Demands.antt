@@ -1,15 +1,17 @@
 -- What the customer accepts on: demands 1 to 3, each over the calls that it speaks of. Whatever calls are given, a demand holds of them or it does not.
 -- Assumes nothing.
 use mathlib.Core.Path.{_≡_}
-use mathlib.Core.Bool.{Bool, true, false}
+use mathlib.Core.Bool.{true, false}
 use mathlib.Core.List.{List, _++_}
 use mathlib.Core.Logic.{_↔_}
 use Prim.Native.Nat.{ℕ, _+_, _*_, _≤_, _<_}
 use lib.ListN.{length, take, drop, getD}
-use Rattle.text.specs.Faults.{overlong, hasFault}
+use Rattle.numbers.specs.Tests.{Lowest, NoRow}
+use Rattle.text.specs.Faults.{overlong, faultsOf}
 use Rattle.image.specs.Check.{imageFaults}
 use Rattle.machine.specs.Events.{badScript, badEvent, badEvents, eventCount}
-use Rattle.running.specs.Courses.{imageCourse, over}
+use Rattle.machine.specs.Run.{over}
+use Rattle.running.specs.Courses.{imageCourse}
 use Rattle.translation.specs.Images.{image, accepted}
 use Rattle.bench.specs.Translating.{answered, translated, translatedInto}
 use Rattle.bench.specs.Running.{checkedAs, ranAs, refusedAs, runFaults, ran, ranInto}
@@ -46,22 +48,12 @@ Run = List ℕ → List ℕ → ℕ → List ℕ → Outcome
 abbrev pub given : Translation → List ℕ
 given t = take (t .answer .length) (t .image)
 
--- Row k of a table, from 0, holds and no row before it does; no row holds.
-abbrev pub Lowest : List Bool → ℕ → Type 0
-Lowest rows k = (getD rows k false ≡ true) × ((j : ℕ) → j < k → getD rows j false ≡ false)
-
-abbrev pub NoRow : List Bool → Type 0
-NoRow rows = (k : ℕ) → getD rows k false ≡ false
-
--- Line l of a text has fault n and no lower one, and no line before it has any; no line has any.
+-- Row k of the faults, from 0, is the lowest that holds for line l of a text, from 1, and no row holds for a line before it; none holds for any line.
 abbrev pub FirstFault : List ℕ → ℕ → ℕ → Type 0
-FirstFault text n l =
-    (hasFault n l text ≡ true)
-    × ((m : ℕ) → m < n → hasFault m l text ≡ false)
-    × ((k : ℕ) → k < l → (m : ℕ) → hasFault m k text ≡ false)
+FirstFault text k l = Lowest (faultsOf text l) k × ((j : ℕ) → j < l → NoRow (faultsOf text j))
 
 abbrev pub NoFault : List ℕ → Type 0
-NoFault text = (m k : ℕ) → hasFault m k text ≡ false
+NoFault text = (l : ℕ) → NoRow (faultsOf text l)
 
 -- Event i of a script, from 0, is bad and none before it is.
 abbrev pub FirstBad : List ℕ → ℕ → Type 0
@@ -70,14 +62,14 @@ FirstBad script i = (i < eventCount script) × (badEvent script i ≡ true) × (
 -- Demand 1 for one text and one image buffer.
 pub record TextRefused (text buffer : List ℕ) (t : Translation) : Type 0 where
   -- Refusals 1, Refusals 20: 1 exactly if the text is over 16,384 bytes.
-  pub one : (t .answer .number ≡ 1) ↔ (overlong text ≡ true)
-  -- Refusals 2 to 9, Refusals 20: else n from 2 to 9 with line l exactly if no line above l has a fault, and n is the lowest that l has.
-  pub faulty : (n l : ℕ) → 2 ≤ n → n ≤ 9
-      → ((t .answer .number ≡ n) × (t .answer .line ≡ l)) ↔ ((overlong text ≡ false) × FirstFault text n l)
+  pub number-1 : (t .answer .number ≡ 1) ↔ (overlong text ≡ true)
+  -- Refusals 2 to 9, Refusals 20: else 2 and up, to 9, with line l exactly if that row of the table is the lowest that holds for l, and none holds above l.
+  pub faulty : (k l : ℕ) → k < 8
+      → ((t .answer .number ≡ 2 + k) × (t .answer .line ≡ l)) ↔ ((overlong text ≡ false) × FirstFault text k l)
   -- Refusals 10, Refusals 20: else 10 exactly if the buffer is shorter than the image.
-  pub ten : (t .answer .number ≡ 10) ↔ ((overlong text ≡ false) × NoFault text × (length buffer < length (image text)))
+  pub number-10 : (t .answer .number ≡ 10) ↔ ((overlong text ≡ false) × NoFault text × (length buffer < length (image text)))
   -- Refusals 25: 0 exactly if none of these holds.
-  pub none : (t .answer .number ≡ 0) ↔ ((overlong text ≡ false) × NoFault text × (length (image text) ≤ length buffer))
+  pub number-0 : (t .answer .number ≡ 0) ↔ ((overlong text ≡ false) × NoFault text × (length (image text) ≤ length buffer))
   -- Refusals 22, Refusals 25: the line is 0 for 1, 10 and 0.
   pub line-1 : t .answer .number ≡ 1 → t .answer .line ≡ 0
   pub line-10 : t .answer .number ≡ 10 → t .answer .line ≡ 0
@@ -130,10 +122,10 @@ TurnsInto translate text s =
 pub record Demand2 (translate : Translate) (check : Check) (run : Run) : Type 0 where
   -- Image 1 to 14, Refusals 25: an accepted text, in any buffer with room, is answered by 0, 0 and the image's length;
   -- the buffer holds the image and behind it what stood there.
-  pub laid-out : (text buffer : List ℕ) → Bytes text → accepted text ≡ true → length (image text) ≤ length buffer
+  pub laid-out : (text buffer : List ℕ) → accepted text ≡ true → length (image text) ≤ length buffer
       → translate text buffer ≡ record { answer = answered 0 0 (length (image text)); image = image text ++ drop (length (image text)) buffer }
   -- And checking accepts that image.
-  pub taken : (text : List ℕ) → Bytes text → accepted text ≡ true → check (image text) .number ≡ 0
+  pub taken : (text : List ℕ) → accepted text ≡ true → check (image text) .number ≡ 0
   -- Refusals 11 to 15, Refusals 26, Refusals 27: any bytes are accepted as an image exactly if translating turns some accepted text into them.
   pub from-text : (s : List ℕ) → Bytes s
       → (check s .number ≡ 0) ↔ ((text : List ℕ) × Bytes text × (accepted text ≡ true) × TurnsInto translate text s)

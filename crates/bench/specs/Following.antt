@@ -10,8 +10,7 @@ use Rattle.effects.specs.Effects.{effect}
 use Rattle.machine.specs.declared.Machine.{Machine}
 use Rattle.machine.specs.Turn.{startMachine}
 use Rattle.machine.specs.Events.{events}
-use Rattle.machine.specs.Run.{Course, runFrom}
-use Rattle.running.specs.Courses.{over}
+use Rattle.machine.specs.Run.{Course, runFrom, over}
 use Rattle.bench.specs.Running.{ranAs}
 use Rattle.bench.specs.declared.Ran.{Ran}
 

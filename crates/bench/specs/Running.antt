@@ -12,8 +12,8 @@ use Rattle.machine.specs.declared.Machine.{Machine}
 use Rattle.machine.specs.declared.Motion.{Motion}
 use Rattle.machine.specs.declared.Motion.the-variants.{Still, To, Slewing}
 use Rattle.machine.specs.Events.{badScript, badEvents, firstBadEvent}
-use Rattle.machine.specs.Run.{Course}
-use Rattle.running.specs.Courses.{imageCourse, over}
+use Rattle.machine.specs.Run.{Course, over}
+use Rattle.running.specs.Courses.{imageCourse}
 use Rattle.bench.specs.declared.Checked.{Checked}
 use Rattle.bench.specs.declared.State.{State}
 use Rattle.bench.specs.declared.Ran.{Ran}

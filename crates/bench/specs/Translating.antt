@@ -14,7 +14,7 @@ unfoldable pub tooShort : List ℕ → ℕ → Bool
 tooShort text room = ltb room (length (image text))
 
 abbrev pub answered : ℕ → ℕ → ℕ → Translated
-answered number line length = record { number = number; line = line; length = length }
+answered number line size = record { number = number; line = line; length = size }
 
 -- Refusals 20, Refusals 22, Refusals 25: 1 before all, 10 behind all, between them the first line with a fault; for a buffer of this size.
 unfoldable pub translated : List ℕ → ℕ → Translated

@@ -4,6 +4,7 @@ use mathlib.Core.Bool.{Bool, true, false, cond}
 use mathlib.Core.List.{List, [], _∷_, _++_}
 use Prim.Native.Nat.{ℕ, zero, suc}
 use lib.Dec.{eqb, leb}
+use lib.ListN.{length, drop}
 use Rattle.effects.specs.declared.Effect.{Effect}
 use Rattle.machine.specs.declared.Machine.{Machine}
 use Rattle.machine.specs.declared.Turned.{Turned}
@@ -49,3 +50,7 @@ module _ (act : Machine → Effect) (cells : ℕ) where
       let stopped = after bytes (ended 2 (suc t) (now .machine)) in
       let goes = after bytes (runFrom left (suc t) (reached .left) (now .machine)) in
       cond (leb cells (m .next)) (ended 1 t m) (cond (now .stops) stopped goes)
+
+-- Events 8: the records of a run over what a buffer held.
+unfoldable pub over : Course → List ℕ → List ℕ
+over c buffer = c .records ++ drop (length (c .records)) buffer

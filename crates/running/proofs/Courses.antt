@@ -19,12 +19,12 @@ use Rattle.machine.specs.declared.Turned.{Turned}
 use Rattle.machine.specs.declared.Event.{Event}
 use Rattle.machine.specs.Turn.{startMachine, turn}
 use Rattle.machine.specs.Events.{eventCount, recordBytes}
-use Rattle.machine.specs.Run.{Course, ended, after, reach, runFrom}
+use Rattle.machine.specs.Run.{Course, ended, after, reach, runFrom, over}
 use Rattle.machine.specs.Code.{Inputs}
 use Rattle.machine.proofs.Inputs.{inputs-start, inputs-turn}
 use Rattle.machine.proofs.Written.{record-most}
 use Rattle.running.specs.declared.Stepped.{Stepped}
-use Rattle.running.specs.Courses.{cellActs, imageCourse, over}
+use Rattle.running.specs.Courses.{cellActs, imageCourse}
 use Rattle.running.specs.Code.{eventsFrom, ReachedBy, SteppedBy, EndedAs}
 use Rattle.running.proofs.Scripts.{events-all}
 

@@ -9,11 +9,11 @@ use Rattle.machine.specs.declared.Machine.{Machine}
 use Rattle.machine.specs.declared.Event.{Event}
 use Rattle.machine.specs.Events.{eventAt, eventCount}
 use Rattle.machine.specs.Turn.{turn}
-use Rattle.machine.specs.Run.{Course, reach}
+use Rattle.machine.specs.Run.{Course, reach, over}
 use Rattle.machine.specs.Code.{Inputs}
 use Rattle.running.specs.declared.Stepped.{Stepped}
 use Rattle.running.specs.declared.Ended.{Ended}
-use Rattle.running.specs.Courses.{cellActs, over}
+use Rattle.running.specs.Courses.{cellActs}
 use Rattle.running.specs.Visits.{visitsOver}
 
 -- The events of a script from the one with this number on.

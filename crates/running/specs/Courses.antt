@@ -1,8 +1,7 @@
 -- Document 01, "One turn" and "Events and records": the run of an image.
 -- Assumes nothing.
-use mathlib.Core.List.{List, _++_}
+use mathlib.Core.List.{List}
 use Prim.Native.Nat.{ℕ}
-use lib.ListN.{length, drop}
 use Rattle.program.specs.Cells.{same, statementOf}
 use Rattle.image.specs.Layout.{cellCount, cellAt, startValues}
 use Rattle.effects.specs.declared.Effect.{Effect}
@@ -19,7 +18,3 @@ cellActs s m = effect same same (m .variables) (m .kept) (m .hold) (statementOf 
 -- Turn 6, Variables 3: the run of an image from its start.
 unfoldable pub imageCourse : List ℕ → List ℕ → ℕ → Course
 imageCourse s script budget = runFrom (cellActs s) (cellCount s) budget 0 (events script) (startMachine (startValues s))
-
--- Events 8: the records of a run over what a buffer held.
-unfoldable pub over : Course → List ℕ → List ℕ
-over c buffer = c .records ++ drop (length (c .records)) buffer

@@ -12,7 +12,8 @@ use lib.Seq.{take-at}
 use Rattle.numbers.specs.Tests.{lowest}
 use Rattle.text.specs.Faults.{overlong, firstFault}
 use Rattle.image.specs.Check.{checked, imageFaults, badLength}
-use Rattle.running.specs.Courses.{imageCourse, over}
+use Rattle.running.specs.Courses.{imageCourse}
+use Rattle.machine.specs.Run.{over}
 use Rattle.translation.specs.Images.{image, accepted}
 use Rattle.agreement.proofs.Checked.{image-checked}
 use Rattle.bench.specs.declared.Translated.{Translated}
