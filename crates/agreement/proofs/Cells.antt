@@ -23,7 +23,6 @@ use Rattle.image.proofs.Accepted.{Writes, Reads, Compares, Acceptable}
 use Rattle.translation.specs.Images.{cellPart, labelPart, variablePart, imageOf}
 use Rattle.translation.specs.Places.{lineAt}
 use Rattle.translation.proofs.Parts.{parts-length, cells-sized}
-use Rattle.agreement.proofs.Parsed.{ParsedStatement}
 use Rattle.agreement.proofs.Sound.{Fine, Good, good, both-true}
 use Rattle.agreement.proofs.Places.{here, cell-is, line-at}
 use Rattle.agreement.proofs.Records.{trailer, part-at, place-below}
@@ -159,11 +158,6 @@ module _ (xs : List Line) (f : Fine xs) (k : ℕ) (h : k < howMany makesCell xs)
   pub line-good : (l : CellLine xs k) → Good xs (l .before) (Acts (lineAt xs k))
   line-good l = good xs f (l .before) (Acts (lineAt xs k)) (l .rest) (l .whole)
 
-  pub line-parsed : ParsedStatement (lineAt xs k)
-  line-parsed = line-good (cell-line xs f k h) .parsed
-
   pub line-acceptable : Acceptable (placeOf xs) (numberOf xs) (imageOf xs) (howMany makesVariable xs) (lineAt xs k)
   line-acceptable = let l = cell-line xs f k h in acceptable xs f (l .before) (lineAt xs k) (line-good l)
 
-  pub line-cell-good : GoodCell (cellOf (placeOf xs) (numberOf xs) (lineAt xs k))
-  line-cell-good = let l = cell-line xs f k h in cell-good xs f (l .before) (l .rest) (lineAt xs k) (l .whole)

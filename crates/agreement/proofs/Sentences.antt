@@ -1,14 +1,14 @@
 -- Sentences of the paper that say only, one or never, about the definitions.
 -- Assumes nothing.
-use mathlib.Core.Path.{_≡_, refl, sym, ap, _∙_}
+use mathlib.Core.Path.{_≡_, refl}
 use mathlib.Core.Bool.{Bool, true, false, cond, _&&_, _||_, not, true≢false}
 use mathlib.Core.List.{List, [], _∷_}
 use mathlib.Core.Option.{Option, none, some}
-use Prim.Native.Nat.{ℕ, suc, _+_, _-_, _≤_, _<_}
+use Prim.Native.Nat.{ℕ, suc, _-_, _≤_, _<_}
 use native.Mathlib.Omega.{arith}
 use borrow.Author.Tests.{lt-leb, le-leb, ltb-false}
-use lib.Dec.{eqb, leb, ltb}
-use Rattle.numbers.specs.Tests.{anyBelow, eqList}
+use lib.Dec.{leb, ltb}
+use Rattle.numbers.specs.Tests.{eqList}
 use Rattle.program.specs.Names.{Name, twoCharacters, userName}
 use Rattle.text.specs.Tokens.{Token}
 use Rattle.text.specs.Forms.{Slot, Is, New, Target, Written, Left, Right, Start, Operating, Comparing, Parts, naming, writing, operating, comparing, Taken, took, put, word, sign, takes, operatorMeant, comparisonMeant, variableName}
@@ -17,7 +17,7 @@ use Rattle.machine.specs.declared.Machine.{Machine}
 use Rattle.machine.specs.declared.Event.{Event}
 use Rattle.machine.specs.Turn.{turn}
 use Rattle.machine.specs.Events.{eventAt, eventCount, badEvent, badEvents, goodEvent, recordBytes}
-use Rattle.machine.specs.Run.{Course, runFrom, reach, after, ended}
+use Rattle.machine.specs.Run.{runFrom, reach, after, ended}
 use Rattle.machine.proofs.Scripts.{none-below}
 
 -- Turn 7: before the end and with turns left, the events of the turn act, then just one statement; the run goes on from there, or stops.

@@ -1,22 +1,17 @@
 -- What is well made has words for names: the names that a line declares, and those in its statement.
 -- Assumes nothing.
 use mathlib.Core.Path.{_≡_}
-use mathlib.Core.Bool.{_&&_, not}
+use mathlib.Core.Bool.{not}
 use mathlib.Core.List.{List, [], _∷_, _++_}
 use mathlib.Core.Logic.{⊎-elim}
-use Prim.Native.Nat.{ℕ, _≤_, _<_}
-use native.Mathlib.Omega.{arith}
-use lib.Dec.{T, eqb, leb, leb→le, eqb→eq}
+use Prim.Native.Nat.{ℕ}
+use lib.Dec.{T, eqb, eqb→eq}
 use lib.ListN.{length}
-use Rattle.numbers.specs.Bytes.{number}
-use Rattle.program.specs.Names.{Name, letter, digit, wordCharacter, twoCharacters, paperVariable, reserved, userName}
-use Rattle.program.specs.Code.{key}
-use Rattle.program.specs.Cells.{noTarget}
-use Rattle.program.specs.Statements.{Value, Literal, Variable, Condition, Always, Compare, Statement, Set, SetWith, IC, DC, BR, CL, RT, E, H, Hold, OE, Disarm, MA, MR, SL, PR}
-use Rattle.program.proofs.Keys.{IsWord, both, either, two-word, user-word, paper-word}
+use Rattle.program.specs.Names.{Name, twoCharacters, paperVariable, userName}
+use Rattle.program.proofs.Keys.{IsWord, both, either, user-word, paper-word}
 use Rattle.text.specs.Forms.{Line, Blank, Label, Declared, Acts, variableName}
 use Rattle.translation.proofs.Parts.{TwoNamed, AllTwo}
-use Rattle.agreement.proofs.Parsed.{Parsed, ParsedValue, ParsedCondition, ParsedStatement}
+use Rattle.agreement.proofs.Parsed.{Parsed}
 use Rattle.agreement.proofs.Sound.{Sound, Fine}
 
 two-long : (w : Name) → T (twoCharacters w) → length w ≡ 2

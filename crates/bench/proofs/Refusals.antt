@@ -1,18 +1,16 @@
 -- Which answer to a run the tests lead to.
 -- Assumes nothing.
 use mathlib.Core.Path.{_≡_, refl, sym, ap, _∙_}
-use mathlib.Core.Bool.{Bool, true, false, cond}
+use mathlib.Core.Bool.{Bool, true, false}
 use mathlib.Core.List.{List, [], _∷_}
-use Prim.Native.Nat.{ℕ, _+_, _*_, _/_, _≤_, _<_}
+use Prim.Native.Nat.{ℕ, _*_, _/_, _≤_, _<_}
 use native.Mathlib.Omega.{arith}
 use borrow.Author.Tests.{lt-ltb, le-ltb, ne-eqb}
-use lib.Dec.{eqb, ltb}
+use lib.Dec.{eqb}
 use lib.ListN.{length}
 use Rattle.numbers.specs.Tests.{lowest}
 use Rattle.image.specs.Check.{checked, imageFaults, badLength, badEdition, badTrailer, badCells, badRecords}
-use Rattle.machine.specs.declared.Machine.{Machine}
 use Rattle.machine.specs.Events.{badScript, badEvents, firstBadEvent, eventCount}
-use Rattle.machine.specs.Run.{Course, over}
 use Rattle.machine.proofs.Scripts.{bad-events}
 use Rattle.running.specs.declared.Ended.{Ended}
 use Rattle.running.specs.Courses.{imageCourse}

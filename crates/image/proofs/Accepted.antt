@@ -6,9 +6,8 @@ use mathlib.Core.List.{List, _++_}
 use Prim.Native.Nat.{ℕ, _+_, _*_, _≤_}
 use native.Mathlib.Omega.{arith}
 use borrow.Author.Tests.{le-ltb, eq-eqb}
-use lib.Dec.{eqb, leb}
+use lib.Dec.{eqb}
 use lib.ListN.{length}
-use Rattle.numbers.specs.Bytes.{bytes}
 use Rattle.numbers.specs.Tests.{anyOf}
 use Rattle.numbers.proofs.Laws.{signed-digits}
 use Rattle.numbers.proofs.Kit.{within32}

@@ -11,7 +11,7 @@ use lib.ListN.{length, length-append}
 use lib.Seq.{drop-append-add, drop-at, take-at}
 use mir.Syntax.{w32}
 use mir.Val.{SFits}
-use Rattle.numbers.specs.Bytes.{bytes, number, field}
+use Rattle.numbers.specs.Bytes.{bytes, field}
 use Rattle.numbers.specs.Bits.{digits32, signed32}
 use Rattle.numbers.proofs.Laws.{Bytes, length-bytes, field-back, there-and-back, back-and-there, signed-digits, digits-below}
 use Rattle.program.specs.Code.{key}

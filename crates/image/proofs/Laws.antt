@@ -1,6 +1,6 @@
 -- Laws of writing the parts of an image one behind the other, and of their lengths.
 -- Assumes nothing.
-use mathlib.Core.Path.{_≡_, sym, _∙_}
+use mathlib.Core.Path.{_≡_, _∙_}
 use mathlib.Core.List.{List, [], _∷_, _++_}
 use Prim.Native.Nat.{ℕ, suc, _+_, _*_, _≤_, _<_}
 use native.Mathlib.Nat.{add-zero, add-assoc, add-suc, suc-add}
@@ -30,9 +30,6 @@ sets-append b at [] ys = rw add-zero
 sets-append b at (x ∷ xs) ys = sets-append (set b at x) (suc at) xs ys ∙ rw (suc-add, add-suc)
 
 -- The same as what code leaves: a buffer that was stored to at the place behind.
-pub sets-behind : (b : List ℕ) (at to : ℕ) (xs ys : List ℕ) {b₁ b₂ : List ℕ} → to ≡ at + length xs
-    → b₁ ≡ sets b at xs → b₂ ≡ sets b₁ to ys → b₂ ≡ sets b at (xs ++ ys)
-sets-behind b at to xs ys e h₁ h₂ = h₂ ∙ rw (h₁, e) (sym (sets-append b at xs ys))
 
 pub shape-small : (o : Operand) → shape o < 3
 unfolding shape

@@ -1,10 +1,10 @@
 -- Document 01, "Image": what stands in which byte, written and read back.
 -- Assumes nothing.
 use mathlib.Core.Bool.{cond}
-use mathlib.Core.List.{List, [], _∷_, _++_}
+use mathlib.Core.List.{List, [], _++_}
 use Prim.Native.Nat.{ℕ, _+_, _*_, _-_, _/_, _%_}
 use lib.Dec.{eqb}
-use lib.IntN.{ℤ, pos}
+use lib.IntN.{ℤ}
 use lib.ListN.{length, take, drop}
 use Rattle.numbers.specs.Bytes.{bytes, field}
 use Rattle.numbers.specs.Bits.{digits32, signed32}

@@ -2,7 +2,7 @@
 ghost use mathlib.Core.Path.{_≡_};
 ghost use Prim.Native.Nat.{_+_};
 ghost use Rattle.numbers.specs.Bytes.{field};
-ghost use Rattle.image.specs.Layout.{imageLength, trailerPlace, firstLabelPlace, cellCount, labelCount, variableCount, edition, wholeLength, operandAt, cellAt, labelTarget, startValue};
+ghost use Rattle.image.specs.Layout.{imageLength, trailerPlace, firstLabelPlace, cellCount, labelCount, variableCount, edition, wholeLength, operandAt, cellAt, startValue};
 ghost use Rattle.image.specs.Code.{labelPlaceOf, variablePlaceOf};
 use program::Cell;
 use program::Operand;
@@ -181,13 +181,6 @@ pub fn cell_at(s: &[u8], number: u16) -> Cell
         right: right,
         target: target,
     }
-}
-
-// The target of the label record with this number.
-pub fn label_target(s: &[u8], number: u16) -> u16
-    ensures { λ r. ⌜ r ≡ labelTarget (now (s .entry)) number ⌝ }
-{
-    numbers::read2(s, label_place(cell_count(s), number) + LABEL_TARGET)
 }
 
 // The start value in the variable record with this number.

@@ -1,8 +1,8 @@
 -- A text made of lines that are each ended by LF falls into just these lines.
 -- Assumes nothing.
-use mathlib.Core.Path.{_≡_, refl, ap, _∙_}
+use mathlib.Core.Path.{_≡_, refl}
 use mathlib.Core.Bool.{Bool, _&&_, not}
-use mathlib.Core.List.{List, [], _∷_, _++_, append-assoc, flatMap}
+use mathlib.Core.List.{List, [], _∷_, _++_, append-assoc}
 use Prim.Native.Nat.{ℕ}
 use lib.Dec.{T, eqb}
 use Rattle.numbers.specs.Tests.{allOf}
@@ -30,9 +30,3 @@ pub lines-line : (l rest : List ℕ) → T (allOf inLine l) → lines (line l ++
 unfolding line
 lines-line l rest h = rw append-assoc (lines-cut l rest h)
 
-pub lines-flat : (ls : List (List ℕ)) → T (allOf (allOf inLine) ls) → lines (flatMap line ls) ≡ ls
-unfolding lines flatMap allOf
-lines-flat [] h = refl
-lines-flat (l ∷ ls) h =
-    let c = both (allOf inLine l) (allOf (allOf inLine) ls) h in
-    lines-line l (flatMap line ls) (c .0) ∙ ap (λ (more : List (List ℕ)). l ∷ more) (lines-flat ls (c .1))

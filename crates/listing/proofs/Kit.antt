@@ -25,9 +25,6 @@ is-false false h = refl
 pub true-is : (t : Bool) → t ≡ true → T t
 true-is t e = rw e tt
 
-pub false-is : (t : Bool) → t ≡ false → T (not t)
-false-is t e = rw e tt
-
 -- Neither of two.
 pub neither : (x y : Bool) → x || y ≡ false → (x ≡ false) × (y ≡ false)
 neither true y e = absurd (subst T e tt)

@@ -1,13 +1,12 @@
 -- Document 01, "One turn" and "Events and records": the run, over any way to find what the statement at the next cell does.
 -- Assumes nothing.
-use mathlib.Core.Bool.{Bool, true, false, cond}
+use mathlib.Core.Bool.{cond}
 use mathlib.Core.List.{List, [], _∷_, _++_}
 use Prim.Native.Nat.{ℕ, zero, suc}
 use lib.Dec.{eqb, leb}
 use lib.ListN.{length, drop}
 use Rattle.effects.specs.declared.Effect.{Effect}
 use Rattle.machine.specs.declared.Machine.{Machine}
-use Rattle.machine.specs.declared.Turned.{Turned}
 use Rattle.machine.specs.declared.Event.{Event}
 use Rattle.machine.specs.Turn.{turn}
 use Rattle.machine.specs.Events.{happens, recordBytes}

@@ -1,10 +1,11 @@
 // One turn: the effect of the statement, applied to the machine.
 ghost use mathlib.Core.Path.{_≡_};
 ghost use Prim.Native.Nat.{_<_};
-ghost use lib.ListN.{length};
+ghost use lib.IntN.{pos};
+ghost use lib.ListN.{length, set};
 ghost use Rattle.program.specs.Cells.{same, statementOf};
 ghost use Rattle.effects.specs.Effects.{effect};
-ghost use Rattle.machine.specs.Turn.{at, withHandler, onward, nothing, recorded, turned, stored, storeRecord, movingBit, inMotion, slew, called, returned, held, flagged, failed, turn};
+ghost use Rattle.machine.specs.Turn.{withVariables, at, withHandler, onward, nothing, recorded, turned, stored, storeRecord, movingBit, inMotion, slew, called, returned, held, failed, turn};
 use crate::Machine;
 use crate::Motion;
 use crate::Places;
@@ -161,14 +162,14 @@ impl Machine {
         self
     }
 
-    // ER becomes the error, EF becomes 1.
-    fn flagged(mut self, error: u8) -> Machine
-        ensures { λ r. ⌜ r ≡ flagged error self ⌝ }
+    // ER becomes the error, EF this flag.
+    fn flagged(mut self, error: u8, raised: i32) -> Machine
+        ensures { λ r. ⌜ r ≡ withVariables (set (set (self .variables) 10 (pos error)) 15 raised) self ⌝ }
     {
         let number = Variable::ER as usize;
         let flag = Variable::EF as usize;
         self.variables[number] = error as i32;
-        self.variables[flag] = 1;
+        self.variables[flag] = raised;
         self
     }
 
@@ -222,19 +223,19 @@ impl Machine {
             number: 0,
             value: error as i32,
         };
-        let flagged = self.flagged(error);
         if self.handler == Machine::NO_HANDLER {
-            return flagged.onward(wrote);
+            return self.flagged(error, 1).onward(wrote);
         }
         if self.kept < Places::MOST {
+            let entered = self.flagged(error, 1).with_handler(Machine::NO_HANDLER);
             return Turned {
-                machine: flagged.with_handler(Machine::NO_HANDLER).called(self.handler),
+                machine: entered.called(self.handler),
                 wrote: wrote,
                 stops: false,
             };
         }
         Turned {
-            machine: flagged,
+            machine: self.flagged(error, 1),
             wrote: wrote,
             stops: true,
         }

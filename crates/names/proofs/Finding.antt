@@ -142,9 +142,6 @@ module _ (s : List ℕ) (at k : ℕ) (r : Span) (l : LineAt s at r) where
       more : ℕ
       more = kindFrom k (said (drop (r .next) s))
 
-      zero-kind : (n : ℕ) (a b : Bool) → n ≡ 0 → more ≡ cond (declaring n && b) n more
-      zero-kind n a b q = rw q
-
       pick : (n : ℕ) (b : Bool) → cond (declaring n && b) n 0 ≡ 0 → more ≡ cond (declaring n && b) n more
       pick n b q = go (declaring n && b) refl
         where

@@ -7,9 +7,8 @@ use mathlib.Core.Logic.{_↔_, _⊎_, inl, inr, ⊎-elim}
 use Prim.Native.Nat.{ℕ, zero, suc, _+_, _≤_, _<_}
 use native.Mathlib.Omega.{arith}
 use lib.Dec.{eqb, eqb·suc-zero}
-use lib.ListN.{length, getD}
+use lib.ListN.{getD}
 use Rattle.numbers.specs.Tests.{lowest, Lowest, NoRow}
-use Rattle.text.specs.Lines.{lines}
 use Rattle.text.specs.Faults.{textFaults, faultsOf, fault, firstFrom, firstFault}
 use Rattle.text.specs.declared.Fault.{Fault}
 use Rattle.refusals.proofs.Lowest.{lowest-range, lowest-exactly, lowest-zero}
@@ -131,10 +130,6 @@ first-none text = (there, λ f. number-of (none-scan 1 (textFaults text) (λ i. 
   there : firstFault text .number ≡ 0 → (l : ℕ) → NoRow (faultsOf text l)
   there e zero k = refl
   there e (suc i) k = lowest-zero 1 (rows text i) .0 (scan-none 1 (textFaults text) e i) k
-
-pub first-none-line : (text : List ℕ) → firstFault text .number ≡ 0 → firstFault text ≡ fault 0 0
-unfolding firstFault
-first-none-line text e = none-scan 1 (textFaults text) (scan-none 1 (textFaults text) e)
 
 -- Refusals 20: what is given is none, or a row of the table and a line of the text that are so.
 pub record Given (text : List ℕ) (f : Fault) : Type 0 where

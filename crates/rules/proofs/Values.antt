@@ -6,14 +6,14 @@ use mathlib.Core.List.{List}
 use mathlib.Core.Logic.{_⊎_, ⊎-elim}
 use Prim.Native.Nat.{ℕ, zero, suc, _≤_, _<_}
 use native.Mathlib.Omega.{arith}
-use borrow.Author.Tests.{le-ltb, ltb-true, ltb-false, ne-eqb, eqb-true, eqb-false}
+use borrow.Author.Tests.{ltb-true, ltb-false, eqb-true, eqb-false}
 use lib.Dec.{T, eqb, ltb, eqb→eq, eqb-refl, T-not, leb·zero, leb·suc-zero, leb·suc-suc}
 use lib.IntN.{ℤ, pos, negsuc, sucℤ, predℤ, +ℤ-one, -ℤ-one, _+ℤ_, _-ℤ_}
 use lib.ListN.{length, set, length-set}
 use lib.Seq.{set-out, getD-set-same, getD-set-other}
 use lib.Signed.{leZ}
 use Rattle.numbers.specs.Tests.{between, eqZ}
-use Rattle.program.specs.Variables.{inRange, literals, rangeOf, present, allInputs}
+use Rattle.program.specs.Variables.{inRange, rangeOf, present, allInputs}
 use Rattle.program.proofs.Keys.{both, both-of}
 use Rattle.program.proofs.Ranges.{range-other}
 use Rattle.effects.specs.Effects.{read}

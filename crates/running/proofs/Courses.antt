@@ -19,7 +19,7 @@ use Rattle.machine.specs.declared.Turned.{Turned}
 use Rattle.machine.specs.declared.Event.{Event}
 use Rattle.machine.specs.Turn.{startMachine, turn}
 use Rattle.machine.specs.Events.{eventCount, recordBytes}
-use Rattle.machine.specs.Run.{Course, ended, after, reach, runFrom, over}
+use Rattle.machine.specs.Run.{Course, ended, after, runFrom, over}
 use Rattle.machine.specs.Code.{Inputs}
 use Rattle.machine.proofs.Inputs.{inputs-start, inputs-turn}
 use Rattle.machine.proofs.Written.{record-most}

@@ -1,25 +1,22 @@
 -- The places of a run, turn by turn: those still to come, behind the ones in the buffer, give the whole.
 -- Assumes nothing.
 use mathlib.Core.Path.{_≡_, refl, sym, ap, _∙_}
-use mathlib.Core.Bool.{Bool, true, false, cond}
+use mathlib.Core.Bool.{true, false}
 use mathlib.Core.List.{List, [], _∷_, _++_, append-assoc, append-nil, flatMap}
 use Prim.Native.Nat.{ℕ, zero, suc, _+_, _*_, _-_, _≤_, _<_}
 use native.Mathlib.Nat.{sub-zero}
 use native.Mathlib.Numerals.{add-one}
 use native.Mathlib.Omega.{arith}
 use borrow.Author.Tests.{le-leb, lt-leb}
-use lib.Dec.{leb}
 use lib.ListN.{length, take, drop, take-append-drop}
 use lib.Seq.{sets, length-sets, length-take-le, drop-drop}
 use Rattle.numbers.specs.Bytes.{bytes}
 use Rattle.numbers.proofs.Laws.{length-bytes}
 use Rattle.image.specs.Layout.{cellCount, startValues}
-use Rattle.effects.specs.declared.Effect.{Effect}
 use Rattle.machine.specs.declared.Machine.{Machine}
 use Rattle.machine.specs.declared.Event.{Event}
-use Rattle.machine.specs.Turn.{startMachine, turn}
-use Rattle.machine.specs.Events.{eventCount, recordBytes}
-use Rattle.machine.specs.Run.{Course, ended, after, reach, runFrom}
+use Rattle.machine.specs.Turn.{startMachine}
+use Rattle.machine.specs.Events.{eventCount}
 use Rattle.machine.specs.Code.{Inputs}
 use Rattle.machine.proofs.Inputs.{inputs-start}
 use Rattle.running.specs.declared.Stepped.{Stepped}
@@ -145,26 +142,3 @@ module _ {s script : List ℕ} {budget : ℕ} {b₀ : List ℕ} where
             size = rw eb (length-sets b (2 * t) (bytes 2 (m .next)) ∙ u .size);
             marked = more (rest s script budget (t + 1) (r .left) (r .turned .machine)) (visit-goes s script budget t k m (omega arith) l (rw en at er) e);
           }
-
--- There is one place for each turn of the run.
-no-turn : (a : Bool) (t : ℕ) (past spent : Course) → past .turns ≡ t → spent .turns ≡ t → t + 0 ≡ cond a past spent .turns
-no-turn true t past spent e f = omega arith
-no-turn false t past spent e f = omega arith
-
-one-turn : (a b : Bool) (t n : ℕ) (more : List ℕ) (past stopped goes : Course) → past .turns ≡ t → stopped .turns ≡ suc t → suc t + length more ≡ goes .turns
-    → t + length (cond a [] (n ∷ cond b [] more)) ≡ cond a past (cond b stopped goes) .turns
-one-turn true b t n more past stopped goes e f g = omega arith
-one-turn false true t n more past stopped goes e f g = omega arith
-one-turn false false t n more past stopped goes e f g = omega arith
-
-module _ (act : Machine → Effect) (cells : ℕ) where
-  pub visits-turns : (left t : ℕ) (es : List Event) (m : Machine) → t + length (visitsFrom act cells left t es m) ≡ runFrom act cells left t es m .turns
-  unfolding visitsFrom runFrom
-  visits-turns zero t es m = no-turn (leb cells (m .next)) t (ended 1 t m) (ended 3 t m) refl refl
-  visits-turns (suc left) t es m =
-      let here = reach t es m in
-      let now = turn cells (act (here .machine)) (here .machine) in
-      let bytes = recordBytes t (now .wrote) in
-      one-turn (leb cells (m .next)) (now .stops) t (m .next) (visitsFrom act cells left (suc t) (here .left) (now .machine))
-      (ended 1 t m) (after bytes (ended 2 (suc t) (now .machine))) (after bytes (runFrom act cells left (suc t) (here .left) (now .machine)))
-      refl refl (visits-turns left (suc t) (here .left) (now .machine))

@@ -1,4 +1,5 @@
 // What is wrong on a line that no statement's form fits, as far as can be told.
+use program::Variable;
 use program::names;
 
 // The column of what is wrong, from 1, and the number of its words.

@@ -3,7 +3,6 @@
 use mathlib.Core.Path.{_≡_, refl, sym, ap, ap₂, subst, _∙_}
 use mathlib.Core.Bool.{Bool, true, false, cond, _&&_, not}
 use mathlib.Core.List.{List, [], _∷_}
-use mathlib.Core.Logic.{⊎-elim}
 use mathlib.Core.Option.{Option, none, some}
 use Prim.Native.Nat.{ℕ, zero, suc, _+_, _-_, _≤_, _<_, max}
 use native.Mathlib.Omega.{arith}
@@ -13,12 +12,12 @@ use lib.IntN.{ℤ, pos, negℤ}
 use lib.ListN.{length, drop, length-drop}
 use lib.Seq.{drop-drop}
 use Rattle.numbers.specs.Bytes.{ascii}
-use Rattle.numbers.specs.Tests.{eqList, numbered}
+use Rattle.numbers.specs.Tests.{eqList}
 use Rattle.program.specs.Names.{Name, twoCharacters, userName}
 use Rattle.program.specs.Code.{key, nameOf}
 use Rattle.program.specs.Statements as Said
 use Rattle.program.specs.Statements.{Literal, Variable, BitXor, AtLeast}
-use Rattle.program.proofs.Keys.{Characters, IsWord, isWord, two-word, user-word, name-key, same-test}
+use Rattle.program.proofs.Keys.{Characters, IsWord, two-word, user-word, same-test}
 use Rattle.text.specs.Tokens as Paper
 use Rattle.text.specs.Forms as Form
 use Rattle.text.specs.Forms.{digits, decimal, took, literal, variable, operand, variableName, operatorMeant, comparisonMeant, Parts, Slot, Is, New, Target, Written, Left, Right, Start, Operating, Comparing, put, word, sign, takes, fill, naming, writing, onLeft, operating, comparing, onRight, starting}
@@ -28,7 +27,7 @@ use Rattle.text.specs.declared.forms.Value.{Value}
 use Rattle.text.specs.declared.forms.Value.the-variants as Val
 use Rattle.text.specs.declared.forms.Taken.{Taken}
 use Rattle.text.specs.declared.forms.Match.{Match}
-use Rattle.text.proofs.Words.{Good, Goods, word-or-long, word-short, asked, asked-none, named, kept, spelled-so, variable-word}
+use Rattle.text.proofs.Words.{Good, Goods, asked, asked-none, named, kept, spelled-so, variable-word}
 use Rattle.text.proofs.Signs.{operator-word, comparison-word}
 use Rattle.text.proofs.Matching.{fill-stop}
 

@@ -11,7 +11,7 @@ use borrow.Author.Tests.{ne-eqb}
 use lib.Dec.{T, eqb, leb, leb→le, eqb→eq, eqb-refl}
 use lib.ListN.{length}
 use Rattle.numbers.specs.Bytes.{number}
-use Rattle.numbers.specs.Tests.{allOf, anyOf, eqList, lowest}
+use Rattle.numbers.specs.Tests.{allOf, anyOf, lowest}
 use Rattle.program.specs.Names.{Name, letter, digit, wordCharacter, reserved, paperVariable, twoCharacters, userName}
 use Rattle.program.specs.Variables.{readOnly, mostCells, mostLabels, mostVariables}
 use Rattle.program.specs.Code.{key, nameOf}
@@ -19,10 +19,9 @@ use Rattle.program.specs.Cells as Cells
 use Rattle.program.specs.Cells.{cell, cellOf, jumpOf, noTarget, operatorNumber, comparisonNumber}
 use Rattle.program.specs.Statements as Said
 use Rattle.program.specs.Statements.{Literal, Variable, Always, Compare, Statement, operands, writes, targets, compared, Set, SetWith, IC, DC, BR, CL, RT, E, H, Hold, OE, Disarm, MA, MR, SL, PR}
-use Rattle.program.specs.declared.Cell.{Cell}
 use Rattle.program.specs.declared.Operand.{Operand}
 use Rattle.program.specs.declared.Operand.the-variants as O
-use Rattle.program.proofs.Keys.{both, both-of, either, same-test, IsWord, name-key, key-positive, eq-key, user-word}
+use Rattle.program.proofs.Keys.{both, both-of, either, same-test, name-key, key-positive, user-word}
 use Rattle.text.specs.Tokens as Paper
 use Rattle.text.specs.Tokens.{printable, uncommented, tokens}
 use Rattle.text.specs.Forms as Form
@@ -114,14 +113,6 @@ module _ (l : List ℕ) where
   unfolding readingOf
   reading-name = refl
 
-  pub reading-start : readingOf l .start ≡ saidBy (heard l) .start
-  unfolding readingOf
-  reading-start = refl
-
-  pub reading-cell : readingOf l .cell ≡ saidBy (heard l) .cell
-  unfolding readingOf
-  reading-cell = refl
-
 -- What a line makes, by its kind.
 pub cell-kind : (x : Line) → makesCell x ≡ eqb (saidBy x .kind) 3
 unfolding makesCell saidBy
@@ -152,27 +143,7 @@ or-false : (b : Bool) → (b || false) ≡ b
 or-false true = refl
 or-false false = refl
 
-pub declares-key : (x : Line) → Fine x → (w : Name) → IsWord w → declaresIt w x ≡ ((eqb (saidBy x .kind) 1 || eqb (saidBy x .kind) 2) && eqb (saidBy x .name) (key w))
-unfolding declaresIt declares anyOf saidBy
-declares-key Blank f w i = refl
-declares-key (Label v) f w i = or-false (eqList w v) ∙ eq-key w v i (user-word v f) ∙ eqb-turn (key w) (key v)
-declares-key (Declared v z) f w i = or-false (eqList w v) ∙ eq-key w v i (user-word v (f .0)) ∙ eqb-turn (key w) (key v)
-declares-key (Acts s) f w i = refl
-
 -- A line that declares a name has its key; the name is the user's.
-pub declares-none : (x : Line) → (eqb (saidBy x .kind) 1 || eqb (saidBy x .kind) 2) ≡ false → declares x ≡ []
-unfolding declares saidBy
-declares-none Blank e = refl
-declares-none (Label v) e = absurd (never e)
-declares-none (Declared v z) e = absurd (never e)
-declares-none (Acts s) e = refl
-
-pub declares-one : (x : Line) → Fine x → (eqb (saidBy x .kind) 1 || eqb (saidBy x .kind) 2) ≡ true → declares x ≡ nameOf (saidBy x .name) ∷ []
-unfolding declares saidBy
-declares-one Blank f e = absurd (never (sym e))
-declares-one (Label v) f e = ap (λ (w : Name). w ∷ []) (sym (name-key v (user-word v f)))
-declares-one (Declared v z) f e = ap (λ (w : Name). w ∷ []) (sym (name-key v (user-word v (f .0))))
-declares-one (Acts s) f e = absurd (never (sym e))
 
 -- The lowest fault: one of the four of the line by itself, or one of the other four.
 pub lowest-fault : (a b c d : Bool) (rest : List Bool)

@@ -243,27 +243,10 @@ lines-split s at (inl e) =
     (λ g. rw (take-all at s (le-of-lt g), drop-of-length-le s (le-of-lt g), append-nil))
     (le-or-lt at (length s))
 
--- Past the end, the lines before a place are all lines.
-pub lines-done : (s : List ℕ) (at : ℕ) → length s ≤ at → lines (take at s) ≡ lines s
-lines-done s at h = ap lines (take-all at s h)
-
 -- A text starts with a line.
 pub starts-first : (s : List ℕ) → Starts s 0
 unfolding Starts
 starts-first s = inl refl
-
-module _ {A : Type 0} where
-  drop-tail : (l : List A) (k : ℕ) {x : A} {xs : List A} → drop k l ≡ x ∷ xs → drop (suc k) l ≡ xs
-  drop-tail [] zero e = absurd (let q : _≡_ {A = ℕ} 0 1 = cc in omega arith)
-  drop-tail [] (suc k) e = absurd (let q : _≡_ {A = ℕ} 0 1 = cc in omega arith)
-  drop-tail (y ∷ ys) zero e = cc
-  drop-tail (y ∷ ys) (suc k) e = drop-tail ys k e
-
-  take-tail : (l : List A) (k : ℕ) {x : A} {xs : List A} → drop k l ≡ x ∷ xs → take (suc k) l ≡ take k l ++ (x ∷ [])
-  take-tail [] zero e = absurd (let q : _≡_ {A = ℕ} 0 1 = cc in omega arith)
-  take-tail [] (suc k) e = absurd (let q : _≡_ {A = ℕ} 0 1 = cc in omega arith)
-  take-tail (y ∷ ys) zero e = cc
-  take-tail (y ∷ ys) (suc k) e = ap (λ (l : List A). y ∷ l) (take-tail ys k e)
 
 -- The lines before the next line are those before this one, and this one.
 pub lines-next : (s : List ℕ) (at : ℕ) (r : Span) → Starts s at → LineAt s at r
@@ -278,9 +261,4 @@ lines-next s at r st l =
     ∙ sym (append-assoc (lines (take at s)) (line ∷ []) rest))
 
 -- The same by the number k of the lines before.
-pub drop-next : (s : List ℕ) (at k : ℕ) (r : Span) → LineAt s at r → drop k (lines s) ≡ lines (drop at s) → drop (suc k) (lines s) ≡ lines (drop (r .next) s)
-drop-next s at k r l e = drop-tail (lines s) k (e ∙ l .cut)
 
-pub take-next : (s : List ℕ) (at k : ℕ) (r : Span) → LineAt s at r → drop k (lines s) ≡ lines (drop at s)
-    → take (suc k) (lines s) ≡ take k (lines s) ++ (take (r .end - at) (drop at s) ∷ [])
-take-next s at k r l e = take-tail (lines s) k (e ∙ l .cut)

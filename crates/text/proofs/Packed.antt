@@ -8,11 +8,11 @@ use Prim.Native.Nat.{ℕ, zero, suc, _+_, _-_, _≤_, _<_, min}
 use native.Mathlib.Numerals.{add-one}
 use native.Mathlib.Omega.{arith}
 use borrow.Author.Tests.{lt-ltb, ltb-true, ltb-false}
-use lib.Dec.{T, eqb, leb, ltb, leb→le}
+use lib.Dec.{T, leb, ltb, leb→le}
 use lib.IntN.{ℤ, pos, negℤ}
 use lib.ListN.{length, drop, getD, set, replicate, length-append, length-map, drop-of-length-le}
 use lib.Seq.{set-at, append-snoc}
-use Rattle.numbers.specs.Tests.{allOf, eqList, numbered}
+use Rattle.numbers.specs.Tests.{allOf, eqList}
 use Rattle.numbers.specs.Bytes.{ascii}
 use Rattle.program.specs.Names.{Name, twoCharacters, userName}
 use Rattle.program.specs.Statements as Said

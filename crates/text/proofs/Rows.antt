@@ -6,10 +6,10 @@ use mathlib.Core.List.{List, [], _∷_}
 use mathlib.Core.Option.{Option, none, some}
 use Prim.Native.Nat.{ℕ, _-_}
 use native.Mathlib.Omega.{arith}
-use lib.Dec.{T, eqb}
+use lib.Dec.{T}
 use lib.IntN.{ℤ, pos}
 use Rattle.numbers.specs.Bytes.{ascii, number}
-use Rattle.numbers.specs.Tests.{anyOf, eqList, numbered}
+use Rattle.numbers.specs.Tests.{anyOf, eqList}
 use Rattle.program.specs.Names.{Name, reserved, twoCharacters, userName}
 use Rattle.program.specs.Code.{key, nameOf}
 use Rattle.program.specs.Cells as Cells

@@ -1,8 +1,8 @@
 -- The signs of operators and comparisons: their places in the code's tables are their numbers in a cell.
 -- Assumes nothing.
-use mathlib.Core.Path.{_≡_, refl, sym, ap, subst, _∙_}
+use mathlib.Core.Path.{_≡_, refl, sym, subst, _∙_}
 use mathlib.Core.Bool.{Bool, true, false, cond, not}
-use mathlib.Core.List.{List, [], _∷_}
+use mathlib.Core.List.{[]}
 use mathlib.Core.Option.{Option, none, some}
 use Prim.Native.Nat.{ℕ, suc}
 use borrow.Author.Tests.{eq-eqb, ne-eqb}
@@ -11,10 +11,10 @@ use Rattle.numbers.specs.Bytes.{ascii}
 use Rattle.numbers.specs.Tests.{allOf, eqList, numbered}
 use Rattle.program.specs.Names.{Name}
 use Rattle.program.specs.Cells.{operatorNumber, comparisonNumber}
-use Rattle.program.specs.Statements.{Operator, Plus, Minus, Times, Divided, BitAnd, BitOr, BitXor, Comparison, Equal, Unequal, Less, AtMost, Greater, AtLeast}
+use Rattle.program.specs.Statements.{Plus, Minus, Times, Divided, BitAnd, BitOr, BitXor, Equal, Unequal, Less, AtMost, Greater, AtLeast}
 use Rattle.program.proofs.Keys.{IsWord, isWord}
 use Rattle.text.specs.Forms.{operatorSign, comparisonSign, meant, operatorMeant, comparisonMeant}
-use Rattle.text.specs.Code.{known, isOperator, isComparison, orElse, operatorBy, comparisonBy, operatorSigns, comparisonSigns}
+use Rattle.text.specs.Code.{known, isOperator, isComparison, orElse, operatorSigns, comparisonSigns}
 use Rattle.text.proofs.Words.{listed-word}
 
 -- What a place in a table of signs must be: 0 for no sign, and else the number of what is meant, with the last for none.

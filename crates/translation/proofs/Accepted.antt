@@ -1,21 +1,19 @@
 -- What an accepted text is like: no line of it has any of the faults 2 to 9.
 -- Assumes nothing.
-use mathlib.Core.Path.{_≡_, refl, sym, ap, _∙_}
-use mathlib.Core.Bool.{Bool, true, false, cond, _&&_, _||_, not, true≢false}
+use mathlib.Core.Path.{_≡_, refl}
+use mathlib.Core.Bool.{Bool, true, false, cond, _&&_, _||_, true≢false}
 use mathlib.Core.List.{List, [], _∷_, _++_, map, append-assoc, append-nil}
-use mathlib.Core.Option.{Option, none, some}
-use Prim.Native.Nat.{ℕ, zero, suc, _+_, _≤_, _<_}
+use Prim.Native.Nat.{ℕ, zero, suc, _+_, _≤_}
 use native.Mathlib.Omega.{arith}
-use lib.Dec.{T, eqb, eqb→eq, eqb·suc-zero, leb}
-use borrow.Author.Tests.{leb-false, ne-eqb}
-use lib.ListN.{length}
+use lib.Dec.{eqb, eqb·suc-zero, leb}
+use borrow.Author.Tests.{leb-false}
 use Rattle.numbers.specs.Tests.{lowest}
 use Rattle.program.specs.Variables.{mostCells, mostLabels, mostVariables}
 use Rattle.names.specs.Code.{plus}
 use Rattle.names.proofs.Lines.{count-more}
 use Rattle.text.specs.Lines.{lines}
-use Rattle.text.specs.Forms.{Line, Blank, Label, Declared, Acts, reading}
-use Rattle.text.specs.Faults.{longLine, badForm, bigIn, bigLiteral, reservedName, heard, repeated, tooMany, undeclared, readOnlyWritten, faults, firstFrom, faultsFrom, textFaults, firstFault, fault, said, howMany, makesCell, makesLabel, makesVariable}
+use Rattle.text.specs.Forms.{Line}
+use Rattle.text.specs.Faults.{longLine, reservedName, heard, repeated, tooMany, undeclared, readOnlyWritten, faults, firstFrom, faultsFrom, textFaults, firstFault, fault, said, howMany, makesCell, makesLabel, makesVariable}
 
 -- none of the tests holds
 abbrev pub NoneOf : List Bool → Type 0
@@ -76,14 +74,6 @@ module _ (text before : List Line) (l : List ℕ) (h : NoneOf (faults text befor
   pub no-long : longLine l ≡ false
   unfolding faults
   no-long = h .0
-
-  pub no-bad : badForm l ≡ false
-  unfolding faults
-  no-bad = h .1 .0
-
-  pub no-big : bigLiteral l ≡ false
-  unfolding faults
-  no-big = h .1 .1 .0
 
   pub no-reserved : reservedName l ≡ false
   unfolding faults

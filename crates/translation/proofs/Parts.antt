@@ -3,12 +3,12 @@
 use mathlib.Core.Path.{_≡_, refl, sym, ap, _∙_}
 use mathlib.Core.Bool.{Bool, true, false, cond}
 use mathlib.Core.List.{List, [], _∷_, _++_, append-assoc, flatMap}
-use Prim.Native.Nat.{ℕ, zero, suc, _+_, _*_, _-_, _≤_}
+use Prim.Native.Nat.{ℕ, suc, _+_, _*_, _-_, _≤_}
 use native.Mathlib.Nat.{mul-suc, mul-zero}
 use native.Mathlib.Omega.{arith}
 use lib.IntN.{ℤ}
 use lib.ListN.{length, take, drop, length-append, length-drop, take-append-drop}
-use lib.Seq.{sets, length-take-le, drop-drop, drop-at}
+use lib.Seq.{sets, length-take-le, drop-drop}
 use Rattle.numbers.specs.Bytes.{bytes}
 use Rattle.numbers.specs.Bits.{digits32}
 use Rattle.numbers.proofs.Laws.{length-bytes}
@@ -16,7 +16,7 @@ use Rattle.program.specs.Names.{Name}
 use Rattle.program.specs.Cells.{cellOf}
 use Rattle.text.specs.Forms.{Line, Blank, Label, Declared, Acts}
 use Rattle.text.specs.Faults.{howMany, makesCell, makesLabel, makesVariable, placeOf, numberOf}
-use Rattle.image.specs.Layout.{cellBytes, labelBytes, variableBytes, trailerBytes, imageLength}
+use Rattle.image.specs.Layout.{labelBytes, variableBytes, trailerBytes, imageLength}
 use Rattle.image.proofs.Laws.{length-cell, length-trailer}
 use Rattle.translation.specs.Images.{cellPart, labelPart, variablePart, imageOf}
 use Rattle.translation.specs.Code.{emitFrom}

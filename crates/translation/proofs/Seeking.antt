@@ -1,7 +1,7 @@
 -- The line that makes a cell, sought line by line: what seeking from here on finds, seeking in the whole text does.
 -- Assumes nothing.
 use mathlib.Core.Path.{_≡_, refl, sym, ap, _∙_}
-use mathlib.Core.Bool.{Bool, true, false, cond, _&&_}
+use mathlib.Core.Bool.{true, false, _&&_}
 use mathlib.Core.List.{List, [], _∷_, _++_}
 use Prim.Native.Nat.{ℕ, zero, suc, _+_, _-_, _≤_, _<_}
 use native.Mathlib.Numerals.{add-one}
@@ -13,13 +13,12 @@ use lib.Seq.{take-at, getD-at}
 use Rattle.text.specs.Lines.{lines}
 use Rattle.text.specs.Forms.{Line, Blank, Label, Declared, Acts}
 use Rattle.text.specs.Faults.{heard, said, howMany, makesCell}
-use Rattle.text.specs.Code.{Starts, LineAt, readingOf, saidBy}
+use Rattle.text.specs.Code.{Starts, LineAt, readingOf}
 use Rattle.text.specs.declared.Span.{Span}
 use Rattle.text.specs.declared.forms.Reading.{Reading}
 use Rattle.text.proofs.Lines.{starts-first, lines-split, lines-next}
 use Rattle.text.proofs.Heard.{reading-kind, cell-kind}
 use Rattle.names.proofs.Lines.{said-next, said-end}
-use Rattle.translation.specs.declared.Placed.{Placed}
 use Rattle.translation.specs.Places.{lineAt, lineFrom, lineOf, lineBytes}
 use Rattle.translation.specs.Code.{fewer, PlacedAt}
 

@@ -1,7 +1,7 @@
 -- Document 01, "Image": the image of a text.
 -- Assumes nothing.
 use mathlib.Core.Bool.{Bool, _&&_, not}
-use mathlib.Core.List.{List, [], _∷_, _++_, flatMap}
+use mathlib.Core.List.{List, [], _++_, flatMap}
 use Prim.Native.Nat.{ℕ}
 use lib.Dec.{eqb}
 use Rattle.program.specs.Cells.{cellOf}

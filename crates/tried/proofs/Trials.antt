@@ -1,29 +1,26 @@
 -- Translating and then running is following the text.
 -- Assumes nothing.
 use mathlib.Core.Path.{_≡_, refl, sym, ap, _∙_}
-use mathlib.Core.Bool.{Bool, true, false, cond, not, true≢false}
+use mathlib.Core.Bool.{Bool, true, false, cond, true≢false}
 use mathlib.Core.List.{List, [], _++_}
-use Prim.Native.Nat.{ℕ, zero, suc, _≤_}
+use Prim.Native.Nat.{ℕ, _≤_}
 use native.Mathlib.Omega.{arith}
 use borrow.Author.Tests.{ne-eqb, eq-eqb, eqb-true, ltb-false}
-use lib.Dec.{eqb, ltb}
+use lib.Dec.{eqb}
 use lib.ListN.{length, take, drop, length-append, length-drop}
 use lib.Seq.{take-at}
 use Rattle.numbers.specs.Tests.{lowest}
 use Rattle.text.specs.Faults.{overlong, firstFault}
 use Rattle.image.specs.Check.{checked, imageFaults, badLength}
-use Rattle.running.specs.Courses.{imageCourse}
-use Rattle.machine.specs.Run.{over}
 use Rattle.translation.specs.Images.{image, accepted}
 use Rattle.agreement.proofs.Checked.{image-checked}
 use Rattle.bench.specs.declared.Translated.{Translated}
 use Rattle.bench.specs.declared.Ran.{Ran}
-use Rattle.bench.specs.Translating.{answered, tooShort, translated, translatedInto}
-use Rattle.bench.specs.Running.{ran, ranInto, runRefusal, refusalIndex, refusedAs, ranAs}
-use Rattle.bench.specs.Following.{followed, followedInto, textCourse}
+use Rattle.bench.specs.Translating.{tooShort, translated}
+use Rattle.bench.specs.Running.{ran, ranInto, runRefusal, refusalIndex, refusedAs}
+use Rattle.bench.specs.Following.{followed, followedInto}
 use Rattle.bench.specs.Calls.{Translates, Runs}
 use Rattle.bench.proofs.Demands.{one-course, sound-accepted, translated-fits, into-fits}
-use Rattle.tried.specs.declared.Tried.{Tried}
 use Rattle.tried.specs.Trying.{scriptRefusal, triedAs, triedInto, Tries}
 
 -- What an answer to translating says of the text: it is refused, with no length; or it is accepted, and the image has room.

@@ -9,11 +9,9 @@ use Rattle.bench.proofs.check.Reads as reads
 use Rattle.bench.proofs.check.Lts as lts
 use Rattle.image.proofs.checked.Reads as checked-reads
 
--- src/lib.rt:43:17
 checked-requires : tie.Need-checked-requires
 checked-requires c κs = search needs
 
--- src/lib.rt:39:1
 returns : tie.Need-returns
 unfolding checkedAs
 returns c = record { answers = ap (λ (n : ℕ). record { number = n }) (c .checked .ensures) }

@@ -1,6 +1,6 @@
 -- `translate` meets its contract: each refusal behind the tests before it, then the image of the text.
 use mathlib.Core.Path.{_≡_, sym, ap, _∙_}
-use Prim.Native.Nat.{ℕ, _≤_}
+use Prim.Native.Nat.{_≤_}
 use native.Mathlib.Omega.{arith}
 use lib.ListN.{length}
 use Rattle.text.specs.Faults.{said, firstFault}

@@ -2,7 +2,6 @@
 -- Assumes nothing.
 use mathlib.Core.Path.{_∙_}
 use borrow.Author.Needs.{needs}
-use native.Mathlib.Omega.{arith}
 use Rattle.image.specs.Layout.{variablePlace}
 use Rattle.listing.proofs.Keys.{paper-key, record-key}
 use Rattle.listing.proofs.variable_key.Statement.{statement}

@@ -1,7 +1,7 @@
 -- `course` meets its contract. The invariant: what is left to run from here, behind the records in the buffer, gives the whole.
 -- Assumes nothing.
-use mathlib.Core.Path.{_≡_, refl, sym, _∙_}
-use Prim.Native.Nat.{_-_, _≤_, _<_}
+use mathlib.Core.Path.{_∙_}
+use Prim.Native.Nat.{_-_}
 use native.Mathlib.Omega.{arith}
 use borrow.Author.Needs.{needs}
 use Rattle.running.proofs.Scripts.{few-events}

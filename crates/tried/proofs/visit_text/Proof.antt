@@ -1,6 +1,6 @@
 -- `visit_text` meets its contract: the image of the text is visited, and its places are those of the text's own run.
 -- Assumes nothing.
-use mathlib.Core.Path.{_≡_, refl, sym, _∙_}
+use mathlib.Core.Path.{refl, sym, _∙_}
 use native.Mathlib.Omega.{arith}
 use borrow.Author.Needs.{needs}
 use lib.ListN.{length}

@@ -6,25 +6,20 @@ use Rattle.text.specs.Code.{keyWith}
 use Rattle.text.proofs.tokens.key_with.Statement.{statement}
 use Rattle.text.proofs.tokens.key_with.Tie as tie
 
--- src/tokens.rt:125:9
 returns : tie.Need-returns
 unfolding keyWith
 returns c = search tests
 
--- src/tokens.rt:128:29
 mul-result : tie.Need-mul-result
 mul-result c = search needs
 
--- src/tokens.rt:128:16
 add-result : tie.Need-add-result
 add-result c = search needs
 
--- src/tokens.rt:128:9
 returns-2 : tie.Need-returns-2
 unfolding keyWith
 returns-2 c = search tests
 
--- src/tokens.rt:121:1
 returns-3 : tie.Need-returns-3
 unfolding keyWith
 returns-3 c = search tests
