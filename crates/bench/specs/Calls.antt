@@ -10,16 +10,16 @@ use Rattle.bench.specs.declared.Translated.{Translated}
 use Rattle.bench.specs.declared.Checked.{Checked}
 use Rattle.bench.specs.declared.Ran.{Ran}
 
--- Refusals 20 to 25: translating a text into a buffer that held `before`.
-pub record Translates (text before : List ℕ) (answer : Translated) (after : List ℕ) : Type 0 where
-  pub answers : answer ≡ translated text (length before)
-  pub leaves : after ≡ translatedInto text before
+-- Refusals 20 to 25: translating a text into a buffer that held `old`.
+pub record Translates (text old : List ℕ) (answer : Translated) (new : List ℕ) : Type 0 where
+  pub answers : answer ≡ translated text (length old)
+  pub leaves : new ≡ translatedInto text old
 
 -- Refusals 23, Refusals 25: checking an image.
 pub record Checks (image : List ℕ) (answer : Checked) : Type 0 where
   pub answers : answer ≡ checkedAs image
 
--- Events 7, Events 8, Refusals 23 to 25: running an image on a script, with a budget of turns and a record buffer that held `before`.
-pub record Runs (image script : List ℕ) (budget : ℕ) (before : List ℕ) (answer : Ran) (after : List ℕ) : Type 0 where
-  pub answers : answer ≡ ran image script budget (length before)
-  pub leaves : after ≡ ranInto image script budget before
+-- Events 7, Events 8, Refusals 23 to 25: running an image on a script, with a budget of turns and a record buffer that held `old`.
+pub record Runs (image script : List ℕ) (budget : ℕ) (old : List ℕ) (answer : Ran) (new : List ℕ) : Type 0 where
+  pub answers : answer ≡ ran image script budget (length old)
+  pub leaves : new ≡ ranInto image script budget old

@@ -93,13 +93,13 @@ pub record Trial : Type 0 where
   pub budget : ℕ
   pub reason : ℕ
   pub turns : ℕ
-  pub count : ℕ
+  pub wrote : ℕ
   pub records : List ℕ
   pub state : State
 
 abbrev pub trial : List ℕ → ℕ → ℕ → ℕ → ℕ → List ℕ → State → Trial
-trial script budget reason turns count records state =
-    record { script = script; budget = budget; reason = reason; turns = turns; count = count; records = records; state = state }
+trial script budget reason turns wrote records state =
+    record { script = script; budget = budget; reason = reason; turns = turns; wrote = wrote; records = records; state = state }
 
 -- One row: a text, what translating it must answer and write, and its runs.
 pub record Row : Type 0 where
@@ -116,7 +116,7 @@ abbrev pub answer : ℕ → ℕ → ℕ → Translated
 answer number line length = record { number = number; line = line; length = length }
 
 abbrev pub ranWith : Trial → Ran
-ranWith t = record { number = 0; index = 0; reason = t .reason; turns = t .turns; records = t .count; state = t .state }
+ranWith t = record { number = 0; index = 0; reason = t .reason; turns = t .turns; records = t .wrote; state = t .state }
 
 -- A buffer that holds 170 in each byte.
 abbrev pub fresh : ℕ → List ℕ

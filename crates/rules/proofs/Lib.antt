@@ -6,6 +6,7 @@ pub mod Turn
 pub mod Run
 pub mod Errors
 pub mod Calls
+pub mod Holding
 pub mod Never
 pub mod Later
 pub mod Scripts

@@ -42,14 +42,14 @@ pub record SteppedBy (s : List ℕ) (cells : ℕ) (script : List ℕ) (t first :
   pub inputs : Inputs (r .turned .machine .variables)
 
 -- A run went like this course, and its records stand in the buffer over what that held.
-pub record EndedAs (course : Course) (r : Ended) (before after : List ℕ) : Type 0 where
+pub record EndedAs (course : Course) (r : Ended) (old new : List ℕ) : Type 0 where
   pub reason : r .reason ≡ course .reason
   pub turns : r .turns ≡ course .turns
   pub bytes : r .bytes ≡ length (course .records)
   pub machine : r .machine ≡ course .machine
-  pub buffer : after ≡ over course before
+  pub buffer : new ≡ over course old
 
 -- So many places were visited, and they stand in the buffer over what that held.
-pub record VisitedAs (places : List ℕ) (r : ℕ) (before after : List ℕ) : Type 0 where
+pub record VisitedAs (places : List ℕ) (r : ℕ) (old new : List ℕ) : Type 0 where
   pub turns : r ≡ length places
-  pub buffer : after ≡ visitsOver places before
+  pub buffer : new ≡ visitsOver places old
