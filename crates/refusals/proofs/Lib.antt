@@ -1,3 +1,5 @@
 pub mod Lowest
 pub mod Rows
 pub mod First
+pub mod Slots
+pub mod Words
