@@ -3,3 +3,4 @@ pub mod Rows
 pub mod First
 pub mod Slots
 pub mod Words
+pub mod Forms
