@@ -6,3 +6,5 @@ pub mod Mnemonics
 pub mod Words
 pub mod Forms
 pub mod Handler
+pub mod Declaring
+pub mod Reserved
