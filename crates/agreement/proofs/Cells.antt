@@ -160,4 +160,3 @@ module _ (xs : List Line) (f : Fine xs) (k : ℕ) (h : k < howMany makesCell xs)
 
   pub line-acceptable : Acceptable (placeOf xs) (numberOf xs) (imageOf xs) (howMany makesVariable xs) (lineAt xs k)
   line-acceptable = let l = cell-line xs f k h in acceptable xs f (l .before) (lineAt xs k) (line-good l)
-

@@ -29,4 +29,3 @@ lines-cut (b ∷ l) rest h =
 pub lines-line : (l rest : List ℕ) → T (allOf inLine l) → lines (line l ++ rest) ≡ l ∷ lines rest
 unfolding line
 lines-line l rest h = rw append-assoc (lines-cut l rest h)
-

@@ -273,8 +273,7 @@ impl Machine {
             Effect::Stays => self.here(),
             Effect::Holds(turns) => self.held(turns).here(),
             Effect::Arms(handler) => self.with_handler(handler).onward(Record::nothing()),
-            Effect::Disarms => self
-                .with_handler(Machine::NO_HANDLER)
+            Effect::Disarms => self.with_handler(Machine::NO_HANDLER)
                 .onward(Record::nothing()),
             Effect::Moves {
                 target,

@@ -261,4 +261,3 @@ lines-next s at r st l =
     ∙ sym (append-assoc (lines (take at s)) (line ∷ []) rest))
 
 -- The same by the number k of the lines before.
-

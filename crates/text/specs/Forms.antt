@@ -203,7 +203,7 @@ forms =
     ∷ form (Is (ascii "PR") ∷ Left ∷ []) (λ p. Acts (PR (p .left)))
     ∷ []
 
--- What tokens say by the first of these forms that they fill. No tokens fill two of the 21.
+-- What tokens say by the first of these forms that they fill; none fill two of the 21 (`only-form` in crate refusals).
 unfoldable pub byForm : List Form → List Token → Option Line
 byForm [] ts = none
 byForm (f ∷ fs) ts = elim (fill (f .slots) ts noParts) [ none ↦ byForm fs ts | some p ↦ some (f .says p) ]
