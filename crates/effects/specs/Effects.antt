@@ -67,7 +67,7 @@ calling kept cell = cond (ltb kept 8) (Calls cell) (Fails 104)
 unfoldable pub returning : ℕ → Effect
 returning kept = cond (ltb 0 kept) Returns (Fails 105)
 
--- Turn 16: `H` stays while MV is 1.
+-- Turn 16: a bare `H` keeps its cell for as long as the axis moves.
 unfoldable pub waiting : List ℤ → Effect
 waiting vars = cond (eqZ (read vars 14) (pos 1)) Stays Passes
 
@@ -94,12 +94,12 @@ module _ {R : Type 0} (place number : R → ℕ) (vars : List ℤ) (kept hold : 
   value (Literal z) = z
   value (Variable v) = read vars (number v)
 
-  -- Turn 12: the condition holds or is absent.
+  -- Turn 12: a condition that holds, or none at all.
   unfoldable pub holds : Condition R → Bool
   holds Always = true
   holds (Compare x c y) = compares c (value x) (value y)
 
-  -- Events 4, Events 5: PR records the variable's number, or 0 for a literal.
+  -- Events 4, Events 5: a PR is recorded with the number of its variable; a literal has none, so 0.
   unfoldable pub printing : Value R → Effect
   printing (Literal z) = Prints 0 z
   printing (Variable v) = Prints (number v) (read vars (number v))

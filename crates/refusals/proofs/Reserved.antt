@@ -1,4 +1,4 @@
--- Document 01, Text 12 and Refusals 5: fault 5 is LB or VA of a reserved name of two characters, and nothing else.
+-- Document 01, Text 12 and Refusals 5: fault 5 is for a line that declares a reserved word of two characters, by LB or by VA, and for no other.
 -- Assumes nothing.
 use mathlib.Core.Path.{_≡_, refl, subst, sym, ap, _∙_}
 use mathlib.Core.Bool.{Bool, true, false, cond, _&&_, not, or-false, false≢true}

@@ -35,11 +35,11 @@ pub record InError (error : ℕ) (m : Machine) (t : Turned) : Type 0 where
   pub motion : t .machine .motion ≡ m .motion
   pub hold : t .machine .hold ≡ m .hold
   pub wrote : t .wrote ≡ recorded 6 0 (pos error)
-  -- Turn 24: with no handler the following cell is next; places and handler are as before.
+  -- Turn 24: no handler: the following cell is next, and places and handler stay.
   pub unarmed : m .handler ≡ noHandler → Leaves (m .next + 1) (m .places) (m .kept) (m .handler) false t
   -- Turn 25: with a handler and a place free the handler is next; the following cell is kept, and no handler is armed.
   pub armed : (m .handler ≡ noHandler → ⊥) → m .kept < 8 → Leaves (m .handler) (set (m .places) (m .kept) (m .next + 1)) (m .kept + 1) noHandler false t
-  -- Turn 25: with a handler and eight places kept the run stops; next cell, places and handler are as before.
+  -- Turn 25: a handler, and all eight places in use: the run stops, and nothing of these four changes.
   pub full : (m .handler ≡ noHandler → ⊥) → 8 ≤ m .kept → Leaves (m .next) (m .places) (m .kept) (m .handler) true t
 
 -- A turn leaves its own parts.
@@ -89,7 +89,7 @@ ef-in-error cells error m l =
     ap (λ (x : List ℤ). read x 15) (in-error cells error m .variables)
     ∙ read-same (set (m .variables) 10 (pos error)) 15 (pos 1) (omega (arith, length-set (m .variables) 10 (pos error)))
 
--- Turn 25: with a handler and eight places kept an error stops the run; next cell, places and handler are as before.
+-- Turn 25: a handler, and all eight places in use: an error stops the run, and the next cell, the places and the handler stay.
 pub stopped : (cells error : ℕ) (m : Machine) → (m .handler ≡ noHandler → ⊥) → 8 ≤ m .kept → turn cells (Fails error) m ≡ halted error m
 unfolding turn failed
 stopped cells error m n k = rw (ne-eqb (m .handler) noHandler n, le-ltb (m .kept) 8 k)

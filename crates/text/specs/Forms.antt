@@ -40,8 +40,8 @@ comparisonSign AtLeast = ascii ">="
 
 -- The one of these whose sign has these characters.
 unfoldable pub meant : {A : Type 0} → (A → Name) → List A → Name → Option A
-meant sign [] w = none
-meant sign (x ∷ xs) w = let more = meant sign xs w in cond (eqList (sign x) w) (some x) more
+meant signOf [] w = none
+meant signOf (x ∷ xs) w = let more = meant signOf xs w in cond (eqList (signOf x) w) (some x) more
 
 -- Text 17: the operator, and the comparison, that a sign stands for; none for any other characters.
 unfoldable pub operatorMeant : Name → Option Operator
