@@ -14,7 +14,7 @@ use Rattle.program.specs.Variables.{literals, present, readOnly}
 use Rattle.program.specs.Cells.{cell, cellOf, jumpOf, operandOf, noTarget}
 use Rattle.program.specs.Statements.{Value, Literal, Variable, Condition, Always, Compare, Statement, Set, SetWith, IC, DC, BR, CL, RT, E, H, Hold, OE, Disarm, MA, MR, SL, PR}
 use Rattle.program.specs.declared.Operand.the-variants as O
-use Rattle.program.proofs.Selectors.{operator-byte, comparison-byte}
+use Rattle.program.proofs.Selectors.{operator-range, comparison-range}
 use Rattle.text.specs.Forms.{Line, Acts}
 use Rattle.text.specs.Faults.{howMany, makesCell, makesVariable, placeOf, numberOf}
 use Rattle.image.specs.Layout.{cellBytes, cellAt}
@@ -57,7 +57,7 @@ module _ {R : Type 0} (place number : R → ℕ) (s : List ℕ) (variables : ℕ
       record {
         operation = l;
         written = lit< tt;
-        selector = comparison-byte c;
+        selector = omega (arith, comparison-range c .1);
         left = good-operand x (h .0);
         right = good-operand y (h .1);
         target = near n;
@@ -84,7 +84,7 @@ module _ {R : Type 0} (place number : R → ℕ) (s : List ℕ) (variables : ℕ
       record {
         operation = lit< tt;
         written = good-written v (h .0);
-        selector = operator-byte o;
+        selector = omega (arith, operator-range o .1);
         left = good-operand x (h .1);
         right = good-operand y (h .2);
         target = lit< tt;

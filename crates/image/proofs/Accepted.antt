@@ -5,7 +5,7 @@ use mathlib.Core.Bool.{Bool, true, false, _&&_, not}
 use mathlib.Core.List.{List, _++_}
 use Prim.Native.Nat.{ℕ, _+_, _*_, _≤_}
 use native.Mathlib.Omega.{arith}
-use borrow.Author.Tests.{le-ltb, eq-eqb}
+use borrow.Author.Tests.{le-ltb, le-leb, eq-eqb}
 use lib.Dec.{eqb}
 use lib.ListN.{length}
 use Rattle.numbers.specs.Tests.{anyOf}
@@ -13,7 +13,8 @@ use Rattle.numbers.proofs.Laws.{signed-digits}
 use Rattle.numbers.proofs.Kit.{within32}
 use Rattle.program.specs.Variables.{inRange, literals, present, readOnly, mostCells, mostLabels, mostVariables}
 use Rattle.program.specs.Cells.{cellOf, jumpOf, operandOf, noTarget, operatorNumber, comparisonNumber}
-use Rattle.program.specs.Statements.{Value, Literal, Variable, Operator, Plus, Minus, Times, Divided, BitAnd, BitOr, BitXor, Comparison, Equal, Unequal, Less, AtMost, Greater, AtLeast, Condition, Always, Compare, Statement, Set, SetWith, IC, DC, BR, CL, RT, E, H, Hold, OE, Disarm, MA, MR, SL, PR}
+use Rattle.program.specs.Statements.{Value, Literal, Variable, Operator, Comparison, Condition, Always, Compare, Statement, Set, SetWith, IC, DC, BR, CL, RT, E, H, Hold, OE, Disarm, MA, MR, SL, PR}
+use Rattle.program.proofs.Selectors.{operator-range, comparison-range}
 use Rattle.program.specs.declared.Cell.{Cell}
 use Rattle.program.specs.declared.Operand.the-variants as O
 use Rattle.image.specs.Layout.{shape, operandNumber, cellBytes, imageLength, trailerBytes, variableCount}
@@ -148,23 +149,12 @@ module _ {R : Type 0} (place number : R → ℕ) (s : List ℕ) (variables : ℕ
   written-good v h = h
 
   operator-good : (o : Operator) → goodSelector 7 (operatorNumber o) ≡ true
-  unfolding goodSelector operatorNumber
-  operator-good Plus = refl
-  operator-good Minus = refl
-  operator-good Times = refl
-  operator-good Divided = refl
-  operator-good BitAnd = refl
-  operator-good BitOr = refl
-  operator-good BitXor = refl
+  unfolding goodSelector
+  operator-good o = let r = operator-range o in rw (le-leb 1 (operatorNumber o) (r .0), le-leb (operatorNumber o) 7 (r .1)) refl
 
   comparison-good : (c : Comparison) → goodSelector 6 (comparisonNumber c) ≡ true
-  unfolding goodSelector comparisonNumber
-  comparison-good Equal = refl
-  comparison-good Unequal = refl
-  comparison-good Less = refl
-  comparison-good AtMost = refl
-  comparison-good Greater = refl
-  comparison-good AtLeast = refl
+  unfolding goodSelector
+  comparison-good c = let r = comparison-range c in rw (le-leb 1 (comparisonNumber c) (r .0), le-leb (comparisonNumber c) 6 (r .1)) refl
 
   name-good : (o : ℕ) (n : R) → Names n → goodTarget s o true (place n) ≡ true
   unfolding Names

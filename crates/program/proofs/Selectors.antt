@@ -2,8 +2,9 @@
 -- Assumes nothing.
 use mathlib.Core.Path.{_≡_, refl}
 use mathlib.Core.Bool.{false}
-use Prim.Native.Nat.{ℕ, _≤_, _<_}
+use Prim.Native.Nat.{ℕ, _≤_}
 use native.Mathlib.Omega.{arith}
+use borrow.Author.Tests.{ne-eqb}
 use lib.Dec.{eqb}
 use Rattle.numbers.proofs.Lists.{EachFrom, each-from}
 use Rattle.program.specs.Statements.{Operator, Plus, Minus, Times, Divided, BitAnd, BitOr, BitXor, Comparison, Equal, Unequal, Less, AtMost, Greater, AtLeast}
@@ -43,32 +44,26 @@ comparison-back AtMost = refl
 comparison-back Greater = refl
 comparison-back AtLeast = refl
 
+-- Image 6: operators are numbered from 1 to 7, comparisons from 1 to 6.
+pub operator-range : (o : Operator) → (1 ≤ operatorNumber o) × (operatorNumber o ≤ 7)
+unfolding operatorNumber
+operator-range Plus = (omega arith, omega arith)
+operator-range Minus = (omega arith, omega arith)
+operator-range Times = (omega arith, omega arith)
+operator-range Divided = (omega arith, omega arith)
+operator-range BitAnd = (omega arith, omega arith)
+operator-range BitOr = (omega arith, omega arith)
+operator-range BitXor = (omega arith, omega arith)
+
+pub comparison-range : (c : Comparison) → (1 ≤ comparisonNumber c) × (comparisonNumber c ≤ 6)
+unfolding comparisonNumber
+comparison-range Equal = (omega arith, omega arith)
+comparison-range Unequal = (omega arith, omega arith)
+comparison-range Less = (omega arith, omega arith)
+comparison-range AtMost = (omega arith, omega arith)
+comparison-range Greater = (omega arith, omega arith)
+comparison-range AtLeast = (omega arith, omega arith)
+
 -- A comparison's number is never that of a jump without a condition.
 pub comparison-some : (c : Comparison) → eqb (comparisonNumber c) 0 ≡ false
-unfolding comparisonNumber
-comparison-some Equal = refl
-comparison-some Unequal = refl
-comparison-some Less = refl
-comparison-some AtMost = refl
-comparison-some Greater = refl
-comparison-some AtLeast = refl
-
--- Each number fits its byte.
-pub operator-byte : (o : Operator) → operatorNumber o < 256
-unfolding operatorNumber
-operator-byte Plus = omega arith
-operator-byte Minus = omega arith
-operator-byte Times = omega arith
-operator-byte Divided = omega arith
-operator-byte BitAnd = omega arith
-operator-byte BitOr = omega arith
-operator-byte BitXor = omega arith
-
-pub comparison-byte : (c : Comparison) → comparisonNumber c < 256
-unfolding comparisonNumber
-comparison-byte Equal = omega arith
-comparison-byte Unequal = omega arith
-comparison-byte Less = omega arith
-comparison-byte AtMost = omega arith
-comparison-byte Greater = omega arith
-comparison-byte AtLeast = omega arith
+comparison-some c = ne-eqb (comparisonNumber c) 0 (λ e. omega (arith, e, comparison-range c .0))
