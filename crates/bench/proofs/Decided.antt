@@ -16,7 +16,8 @@ use Rattle.refusals.proofs.Lowest.{lowest-range, lowest-exactly, lowest-zero}
 use Rattle.refusals.proofs.First.{first-none, Given, first-given}
 use Rattle.translation.specs.Images.{image}
 use Rattle.bench.specs.Translating.{answered}
-use Rattle.bench.specs.Running.{checkedAs, refusedAs, bigBudget, smallRoom, runFaults}
+use Rattle.bench.specs.Answers.{refusedAs}
+use Rattle.bench.specs.Running.{checkedAs, bigBudget, smallRoom, runFaults}
 use Rattle.bench.specs.Demands.{Translation, Translate, Check, Outcome, Run, TextRefused, RunRefused, Demand1, Demand2, ourTranslate, ourCheck, ourRun}
 use Rattle.bench.proofs.Demands.{sound-accepted, ours-fits, text-refused, image-refused, image-numbers, run-refused, run-accepted}
 

@@ -27,7 +27,8 @@ use Rattle.listing.proofs.Image.{listing-image}
 use Rattle.agreement.proofs.Checked.{image-checked}
 use Rattle.agreement.proofs.Course.{same-course}
 use Rattle.bench.specs.Translating.{answered, tooShort, translated, translatedInto}
-use Rattle.bench.specs.Running.{checkedAs, ranAs, refusedAs, bigBudget, smallRoom, runFaults, runRefusal, refusalIndex, ran, ranInto}
+use Rattle.bench.specs.Answers.{ranAs, refusedAs}
+use Rattle.bench.specs.Running.{checkedAs, bigBudget, smallRoom, runFaults, runRefusal, refusalIndex, ran, ranInto}
 use Rattle.bench.specs.Following.{lineActs, linesCourse, textCourse, followed, followedInto}
 use Rattle.bench.specs.Calls.{Translates, Checks, Runs}
 use Rattle.bench.specs.declared.Translated.{Translated}

@@ -27,8 +27,10 @@ use Rattle.translation.specs.Images.{image, accepted}
 use Rattle.refusals.proofs.First.{first-none}
 use Rattle.agreement.proofs.Checked.{image-checked, image-most}
 use Rattle.bench.specs.Translating.{answered, translated, translatedInto}
+use Rattle.bench.specs.Answers as Answers
 use Rattle.bench.specs.Running as Running
-use Rattle.bench.specs.Running.{checkedAs, stateOf, ran, ranInto, ranAs}
+use Rattle.bench.specs.Answers.{stateOf, ranAs}
+use Rattle.bench.specs.Running.{checkedAs, ran, ranInto}
 use Rattle.bench.specs.Following.{followed}
 use Rattle.bench.specs.Calls.{Translates, Checks, Runs}
 use Rattle.bench.specs.declared.Translated.{Translated}
@@ -111,7 +113,7 @@ empty-image-for-all translate check run empty d =
 
 -- And by demand 3 with our own run, at the feeder: the empty image runs for no turn, the text for 13.
 no-turns : ourRun (image []) twoArrivals 20 (fresh 240) .answer .turns ≡ 0
-unfolding Running.ranAs Courses.imageCourse Courses.cellActs Layout.cellCount Layout.trailerPlace B.field B.number R.runFrom Turn.startMachine
+unfolding Answers.ranAs Courses.imageCourse Courses.cellActs Layout.cellCount Layout.trailerPlace B.field B.number R.runFrom Turn.startMachine
 no-turns =
     ap (λ (o : Outcome). o .answer .turns)
     (run-accepted (image []) twoArrivals 20 (fresh 240) (image-checked [] empty-accepted) script-whole script-fine (omega arith) (omega arith))
@@ -137,7 +139,7 @@ no-image translate check run empty d =
 
 -- And by demand 3, with the bench's own run: the text's own run is not refused.
 pub no-image-run : (translate : Translate) → ((text buffer : List ℕ) → translate text buffer .answer .length ≡ 0) → Demand3 translate ourRun → ⊥
-unfolding Running.ran Running.runRefusal Running.refusedAs Running.ranAs Running.refusalIndex followed Check.checked Check.imageFaults Check.badLength Tests.lowest Events.badScript Events.eventCount Events.badEvents Tests.anyBelow
+unfolding Running.ran Running.runRefusal Answers.refusedAs Answers.ranAs Running.refusalIndex followed Check.checked Check.imageFaults Check.badLength Tests.lowest Events.badScript Events.eventCount Events.badEvents Tests.anyBelow
 no-image-run translate empty d =
     let e = d .one-thing [] (fresh 128) [] 0 [] empty-accepted (row-room [] 16 (sheet-holds .1 .1 .1 .0 .0)) refl refl (omega arith) (omega arith) in
     let nothing : given (translate [] (fresh 128)) ≡ [] = rw (empty [] (fresh 128)) refl in
@@ -184,11 +186,11 @@ writes-nothing translate check run nothing d =
 
 -- The feeder's first turn, by computation: one record, and the next cell is 1.
 one-turn-records : getD (over (imageCourse feederImage twoArrivals 1) (fresh 240)) 12 0 ≡ 170
-unfolding Bits.digits32 Bits.signed32 Bits.eachDigit Bits.on32 B.bytes B.number B.field Tests.eqZ Tests.listed Tests.allOf Tests.anyOf Cells.noTarget Cells.operatorNumber Cells.comparisonNumber Cells.operatorOf Cells.comparisonOf Cells.operandOf Cells.jumpOf Cells.valueOf Cells.conditionOf Cells.holdOf Cells.statementBy Cells.statementOf Variables.rangeOf Variables.startVariables Variables.allInputs Layout.operandNumber Layout.trailerPlace Layout.cellCount Layout.labelCount Layout.variableCount Layout.operandAt Layout.cellAt Layout.labelPlace Layout.variablePlace Layout.startValue Layout.startValues Layout.firstLabelPlace Effects.read Effects.storing Effects.storingResult Effects.moving Effects.value Effects.effect Events.eventAt Events.eventCount Events.events Events.happens Events.recordBytes R.reach R.runFrom Turn.noHandler Turn.startMachine Turn.keep Turn.lastPlace Turn.movingBit Turn.inMotion Turn.turn Courses.cellActs Courses.imageCourse R.over Running.stateOf
+unfolding Bits.digits32 Bits.signed32 Bits.eachDigit Bits.on32 B.bytes B.number B.field Tests.eqZ Tests.listed Tests.allOf Tests.anyOf Cells.noTarget Cells.operatorNumber Cells.comparisonNumber Cells.operatorOf Cells.comparisonOf Cells.operandOf Cells.jumpOf Cells.valueOf Cells.conditionOf Cells.holdOf Cells.statementBy Cells.statementOf Variables.rangeOf Variables.startVariables Variables.allInputs Layout.operandNumber Layout.trailerPlace Layout.cellCount Layout.labelCount Layout.variableCount Layout.operandAt Layout.cellAt Layout.labelPlace Layout.variablePlace Layout.startValue Layout.startValues Layout.firstLabelPlace Effects.read Effects.storing Effects.storingResult Effects.moving Effects.value Effects.effect Events.eventAt Events.eventCount Events.events Events.happens Events.recordBytes R.reach R.runFrom Turn.noHandler Turn.startMachine Turn.keep Turn.lastPlace Turn.movingBit Turn.inMotion Turn.turn Courses.cellActs Courses.imageCourse R.over Answers.stateOf
 one-turn-records = refl
 
 one-turn-next : stateOf (imageCourse feederImage twoArrivals 1 .machine) .next ≡ 1
-unfolding Bits.digits32 Bits.signed32 Bits.eachDigit Bits.on32 B.bytes B.number B.field Tests.eqZ Tests.listed Tests.allOf Tests.anyOf Cells.noTarget Cells.operatorNumber Cells.comparisonNumber Cells.operatorOf Cells.comparisonOf Cells.operandOf Cells.jumpOf Cells.valueOf Cells.conditionOf Cells.holdOf Cells.statementBy Cells.statementOf Variables.rangeOf Variables.startVariables Variables.allInputs Layout.operandNumber Layout.trailerPlace Layout.cellCount Layout.labelCount Layout.variableCount Layout.operandAt Layout.cellAt Layout.labelPlace Layout.variablePlace Layout.startValue Layout.startValues Layout.firstLabelPlace Effects.read Effects.storing Effects.storingResult Effects.moving Effects.value Effects.effect Events.eventAt Events.eventCount Events.events Events.happens Events.recordBytes R.reach R.runFrom Turn.noHandler Turn.startMachine Turn.keep Turn.lastPlace Turn.movingBit Turn.inMotion Turn.turn Courses.cellActs Courses.imageCourse R.over Running.stateOf
+unfolding Bits.digits32 Bits.signed32 Bits.eachDigit Bits.on32 B.bytes B.number B.field Tests.eqZ Tests.listed Tests.allOf Tests.anyOf Cells.noTarget Cells.operatorNumber Cells.comparisonNumber Cells.operatorOf Cells.comparisonOf Cells.operandOf Cells.jumpOf Cells.valueOf Cells.conditionOf Cells.holdOf Cells.statementBy Cells.statementOf Variables.rangeOf Variables.startVariables Variables.allInputs Layout.operandNumber Layout.trailerPlace Layout.cellCount Layout.labelCount Layout.variableCount Layout.operandAt Layout.cellAt Layout.labelPlace Layout.variablePlace Layout.startValue Layout.startValues Layout.firstLabelPlace Effects.read Effects.storing Effects.storingResult Effects.moving Effects.value Effects.effect Events.eventAt Events.eventCount Events.events Events.happens Events.recordBytes R.reach R.runFrom Turn.noHandler Turn.startMachine Turn.keep Turn.lastPlace Turn.movingBit Turn.inMotion Turn.turn Courses.cellActs Courses.imageCourse R.over Answers.stateOf
 one-turn-next = refl
 
 -- A runner that takes the first turn and no other: the records of the first turn alone, with any answer; and the state after the first turn, with any records.

@@ -17,7 +17,8 @@ use Rattle.machine.specs.Events.{eventCount, events, badScript}
 use Rattle.running.specs.Courses.{cellActs, imageCourse}
 use Rattle.rules.proofs.Scripts.{later-bytes-unused}
 use Rattle.listing.proofs.Kit as K
-use Rattle.bench.specs.Running.{ranAs, runFaults, runRefusal, ran, ranInto}
+use Rattle.bench.specs.Answers.{ranAs}
+use Rattle.bench.specs.Running.{runFaults, runRefusal, ran, ranInto}
 use Rattle.bench.specs.Following.{lineActs, linesCourse, textCourse, followed}
 use Rattle.bench.proofs.Demands.{ran-number, run-refused}
 

@@ -17,7 +17,8 @@ use Rattle.running.specs.Courses.{imageCourse}
 use Rattle.running.specs.Code.{EndedAs}
 use Rattle.bench.specs.declared.Ran.{Ran}
 use Rattle.bench.specs.declared.State.{State}
-use Rattle.bench.specs.Running.{stateOf, ranAs, refusedAs, bigBudget, smallRoom, runFaults, runRefusal, refusalIndex, ran, ranInto}
+use Rattle.bench.specs.Answers.{stateOf, ranAs, refusedAs}
+use Rattle.bench.specs.Running.{bigBudget, smallRoom, runFaults, runRefusal, refusalIndex, ran, ranInto}
 use Rattle.bench.specs.Calls.{Runs}
 
 -- an image's refusal is not that of a bad event

@@ -39,7 +39,8 @@ use Rattle.listing.proofs.Accepted.{accepted, faultless}
 use Rattle.listing.proofs.Recorded.{Recorded, recorded}
 use Rattle.listing.proofs.Cells.{from-any, fitting}
 use Rattle.listing.proofs.Kit as K
-use Rattle.bench.specs.Running.{motionNumber, motionValue, stateOf, noState, ranAs, refusedAs, runFaults, runRefusal, ran}
+use Rattle.bench.specs.Answers.{motionNumber, motionValue, stateOf, noState, ranAs, refusedAs}
+use Rattle.bench.specs.Running.{runFaults, runRefusal, ran}
 use Rattle.bench.specs.Following.{linesCourse, textCourse, followed}
 use Rattle.bench.specs.declared.State.{State}
 use Rattle.bench.specs.declared.Ran.{Ran}

@@ -14,7 +14,8 @@ use Rattle.machine.specs.Run.{over}
 use Rattle.running.specs.Courses.{imageCourse}
 use Rattle.translation.specs.Images.{image, accepted}
 use Rattle.bench.specs.Translating.{answered, translated, translatedInto}
-use Rattle.bench.specs.Running.{checkedAs, ranAs, refusedAs, runFaults, ran, ranInto}
+use Rattle.bench.specs.Answers.{ranAs, refusedAs}
+use Rattle.bench.specs.Running.{checkedAs, runFaults, ran, ranInto}
 use Rattle.bench.specs.Following.{followed, followedInto}
 use Rattle.bench.specs.declared.Translated.{Translated}
 use Rattle.bench.specs.declared.Checked.{Checked}

@@ -11,7 +11,7 @@ use Rattle.machine.specs.declared.Machine.{Machine}
 use Rattle.machine.specs.Turn.{startMachine}
 use Rattle.machine.specs.Events.{events}
 use Rattle.machine.specs.Run.{Course, runFrom, over}
-use Rattle.bench.specs.Running.{ranAs}
+use Rattle.bench.specs.Answers.{ranAs}
 use Rattle.bench.specs.declared.Ran.{Ran}
 
 -- Turn 7: what the line at the machine's next place does; a label's place and a variable's number are found by name.

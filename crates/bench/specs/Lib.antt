@@ -1,4 +1,5 @@
 pub mod Translating
+pub mod Answers
 pub mod Running
 pub mod Following
 pub mod Calls

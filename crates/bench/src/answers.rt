@@ -1,6 +1,6 @@
 // The parts of the answers: a state, and the refusals.
 ghost use mathlib.Core.Path.{_≡_};
-ghost use Rattle.bench.specs.Running.{stateOf, noState, refusedAs, motionNumber, motionValue};
+ghost use Rattle.bench.specs.Answers.{stateOf, noState, refusedAs, motionNumber, motionValue};
 ghost use Rattle.bench.specs.Translating.{answered};
 use crate::Ran;
 use crate::State;

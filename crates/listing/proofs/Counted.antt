@@ -14,14 +14,14 @@ use Rattle.listing.proofs.Lists.{length-flat, flat-none}
 use Rattle.listing.proofs.Recorded.{Recorded}
 use Rattle.listing.proofs.Order.{labelLine, cellLine, body, front, front-body, of-labels, only-cells, only-variables, no-label}
 
--- A line that passes the test, as one thing.
-abbrev one : (Line → Bool) → Line → List ℕ
-one p x = cond (p x) (0 ∷ []) []
+-- A mark for a line that passes the test.
+abbrev tally : (Line → Bool) → Line → List ℕ
+tally p x = cond (p x) (0 ∷ []) []
 
-pub count-one : (p : Line → Bool) (xs : List Line) → howMany p xs ≡ length (flatMap (one p) xs)
+pub count-tally : (p : Line → Bool) (xs : List Line) → howMany p xs ≡ length (flatMap (tally p) xs)
 unfolding howMany flatMap
-count-one p [] = refl
-count-one p (x ∷ xs) = rw (count-one p xs) (go (p x) (flatMap (one p) xs))
+count-tally p [] = refl
+count-tally p (x ∷ xs) = rw (count-tally p xs) (go (p x) (flatMap (tally p) xs))
   where
     go : (b : Bool) (l : List ℕ) → cond b (suc (length l)) (length l) ≡ length (cond b (0 ∷ []) [] ++ l)
     go true l = refl
@@ -39,19 +39,19 @@ count-append p (x ∷ xs) ys = rw (count-append p xs ys) (go (p x) (howMany p xs
 -- None of the labels of a target makes a cell.
 pub labels-no-cell : (s : List ℕ) (t : ℕ) → howMany makesCell (labelsSay s t) ≡ 0
 unfolding makesCell
-labels-no-cell s t = count-one makesCell (labelsSay s t) ∙ ap length (no-label s (one makesCell) (λ w. refl) t)
+labels-no-cell s t = count-tally makesCell (labelsSay s t) ∙ ap length (no-label s (tally makesCell) (λ w. refl) t)
 
 module _ (s : List ℕ) (r : Recorded s) where
-  count-both : (p : Line → Bool) → howMany p (listedLines s) ≡ length (flatMap (one p) (front s)) + length (flatMap (one p) (body s))
+  count-both : (p : Line → Bool) → howMany p (listedLines s) ≡ length (flatMap (tally p) (front s)) + length (flatMap (tally p) (body s))
   count-both p =
-      let a = count-one p (front s) in
-      let b = count-one p (body s) in
+      let a = count-tally p (front s) in
+      let b = count-tally p (body s) in
       ap (howMany p) (front-body s) ∙ count-append p (front s) (body s) ∙ omega arith
 
   pub cells-counted : howMany makesCell (listedLines s) ≡ cellCount s
   unfolding makesCell variableSays
   cells-counted =
-      let f = one makesCell in
+      let f = tally makesCell in
       let a = ap length (only-variables s f) in
       let b = ap length (flat-none (λ k. f (variableSays s k)) 0 (variableCount s) (λ k l m. refl)) in
       let c = ap length (only-cells s f (λ w. refl)) in
@@ -61,7 +61,7 @@ module _ (s : List ℕ) (r : Recorded s) where
   pub labels-counted : howMany makesLabel (listedLines s) ≡ labelCount s
   unfolding makesLabel variableSays
   labels-counted =
-      let f = one makesLabel in
+      let f = tally makesLabel in
       let a = ap length (only-variables s f) in
       let b = ap length (flat-none (λ k. f (variableSays s k)) 0 (variableCount s) (λ k l m. refl)) in
       let c = ap length (of-labels s r f (λ w. refl)) in
@@ -71,7 +71,7 @@ module _ (s : List ℕ) (r : Recorded s) where
   pub variables-counted : howMany makesVariable (listedLines s) ≡ variableCount s
   unfolding makesVariable variableSays
   variables-counted =
-      let f = one makesVariable in
+      let f = tally makesVariable in
       let a = ap length (only-variables s f) in
       let b = length-flat (λ k. f (variableSays s k)) 0 (variableCount s) (λ k. refl) in
       let c = ap length (only-cells s f (λ w. refl)) in

@@ -32,8 +32,8 @@ same-unless n false x f h = f h
 abbrev From : ℕ → List Event → Type 0
 From n es = T (allOf (λ (e : Event). leb n (e .turn)) es)
 
-abbrev before : List Event → Reached → Reached
-before later r = record { machine = r .machine; left = r .left ++ later }
+abbrev withLater : List Event → Reached → Reached
+withLater later r = record { machine = r .machine; left = r .left ++ later }
 
 module _ (n : ℕ) (later : List Event) (late : From n later) where
   none-reached : (t : ℕ) (m : Machine) (es : List Event) → From n es → t < n → reach t es m ≡ record { machine = m; left = es }
@@ -43,10 +43,10 @@ module _ (n : ℕ) (later : List Event) (late : From n later) where
       let k = leb→le n (e .turn) (both (leb n (e .turn)) (allOf (λ (e : Event). leb n (e .turn)) es) l .0) in
       rw (ne-eqb (e .turn) t (λ q. omega arith))
 
-  reach-later : (t : ℕ) (es : List Event) (m : Machine) → t < n → reach t (es ++ later) m ≡ before later (reach t es m)
+  reach-later : (t : ℕ) (es : List Event) (m : Machine) → t < n → reach t (es ++ later) m ≡ withLater later (reach t es m)
   unfolding reach
   reach-later t [] m h = none-reached t m later late h
-  reach-later t (e ∷ es) m h = cond-map (before later) (eqb (e .turn) t) (reach-later t es (happens e m) h) refl
+  reach-later t (e ∷ es) m h = cond-map (withLater later) (eqb (e .turn) t) (reach-later t es (happens e m) h) refl
 
   run-later : (act : Machine → Effect) (cells left t : ℕ) (es : List Event) (m : Machine) → runFrom act cells left t es m .turns ≤ n
       → runFrom act cells left t (es ++ later) m ≡ runFrom act cells left t es m

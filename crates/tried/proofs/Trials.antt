@@ -17,7 +17,8 @@ use Rattle.agreement.proofs.Checked.{image-checked}
 use Rattle.bench.specs.declared.Translated.{Translated}
 use Rattle.bench.specs.declared.Ran.{Ran}
 use Rattle.bench.specs.Translating.{tooShort, translated}
-use Rattle.bench.specs.Running.{ran, ranInto, runRefusal, refusalIndex, refusedAs}
+use Rattle.bench.specs.Answers.{refusedAs}
+use Rattle.bench.specs.Running.{ran, ranInto, runRefusal, refusalIndex}
 use Rattle.bench.specs.Following.{followed, followedInto}
 use Rattle.bench.specs.Calls.{Translates, Runs}
 use Rattle.bench.proofs.Demands.{one-course, sound-accepted, translated-fits, into-fits}

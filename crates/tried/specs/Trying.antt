@@ -9,7 +9,8 @@ use lib.ListN.{length}
 use Rattle.numbers.specs.Tests.{lowest}
 use Rattle.bench.specs.declared.Ran.{Ran}
 use Rattle.bench.specs.Translating.{translated, translatedInto}
-use Rattle.bench.specs.Running.{refusedAs, runFaults, refusalIndex}
+use Rattle.bench.specs.Answers.{refusedAs}
+use Rattle.bench.specs.Running.{runFaults, refusalIndex}
 use Rattle.bench.specs.Following.{followed, followedInto}
 use Rattle.tried.specs.declared.Tried.{Tried}
 

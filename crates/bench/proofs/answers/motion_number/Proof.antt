@@ -1,5 +1,5 @@
 -- `motion_number` meets its contract: each motion has its number.
-use Rattle.bench.specs.Running.{motionNumber}
+use Rattle.bench.specs.Answers.{motionNumber}
 use borrow.Author.Needs.{needs}
 use Rattle.bench.proofs.answers.motion_number.Statement.{statement}
 use Rattle.bench.proofs.answers.motion_number.Tie as tie

@@ -2,7 +2,7 @@
 use mathlib.Core.Path.{_≡_, _∙_}
 use mir.Syntax.{w32}
 use mir.Val.{toZ, ofZ}
-use Rattle.bench.specs.Running.{motionValue}
+use Rattle.bench.specs.Answers.{motionValue}
 use borrow.Author.Needs.{needs}
 use Rattle.bench.proofs.answers.motion_value.Statement.{statement}
 use Rattle.bench.proofs.answers.motion_value.Tie as tie

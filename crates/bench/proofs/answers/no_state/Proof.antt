@@ -1,6 +1,6 @@
 -- `no_state` meets its contract: all is 0.
 use mathlib.Core.Path.{refl}
-use Rattle.bench.specs.Running.{noState}
+use Rattle.bench.specs.Answers.{noState}
 use Rattle.bench.proofs.answers.no_state.Statement.{statement}
 use Rattle.bench.proofs.answers.no_state.Tie as tie
 use Rattle.bench.proofs.answers.no_state.Reads as reads

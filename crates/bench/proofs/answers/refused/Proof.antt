@@ -1,5 +1,5 @@
 -- `refused` meets its contract.
-use Rattle.bench.specs.Running.{refusedAs}
+use Rattle.bench.specs.Answers.{refusedAs}
 use borrow.Author.Needs.{needs}
 use Rattle.bench.proofs.answers.refused.Statement.{statement}
 use Rattle.bench.proofs.answers.refused.Tie as tie

@@ -1,6 +1,6 @@
 -- `state_of` meets its contract: each part of the machine in its place.
 use Rattle.numbers.proofs.Kit.{back32, fit32}
-use Rattle.bench.specs.Running.{stateOf}
+use Rattle.bench.specs.Answers.{stateOf}
 use borrow.Author.Needs.{needs}
 use Rattle.bench.proofs.answers.state_of.Statement.{statement}
 use Rattle.bench.proofs.answers.state_of.Tie as tie

@@ -1,0 +1,65 @@
+-- Document 01, "Events and records" and "Refusal numbers": what a run answers, whether it was an image's run or a text's own. No image.
+-- Assumes nothing.
+use Prim.Native.Nat.{ℕ, _/_}
+use lib.IntN.{ℤ, pos}
+use lib.ListN.{length, replicate}
+use Rattle.machine.specs.declared.Machine.{Machine}
+use Rattle.machine.specs.declared.Motion.{Motion}
+use Rattle.machine.specs.declared.Motion.the-variants.{Still, To, Slewing}
+use Rattle.machine.specs.Run.{Course}
+use Rattle.bench.specs.declared.State.{State}
+use Rattle.bench.specs.declared.Ran.{Ran}
+
+-- Turn 2: the motion's number and value in an answer: 0 still, 1 to a target, 2 slewing.
+unfoldable pub motionNumber : Motion → ℕ
+motionNumber Still = 0
+motionNumber (To z) = 1
+motionNumber (Slewing z) = 2
+
+unfoldable pub motionValue : Motion → ℤ
+motionValue Still = pos 0
+motionValue (To z) = z
+motionValue (Slewing z) = z
+
+-- Events 7: every part of the final state.
+unfoldable pub stateOf : Machine → State
+stateOf m =
+    record {
+      variables = m .variables;
+      next = m .next;
+      places = m .places;
+      kept = m .kept;
+      handler = m .handler;
+      hold = m .hold;
+      motion = motionNumber (m .motion);
+      value = motionValue (m .motion);
+    }
+
+-- Refusals 23: the state of a refused run.
+unfoldable pub noState : State
+noState =
+    record {
+      variables = replicate 64 (pos 0);
+      next = 0;
+      places = replicate 8 0;
+      kept = 0;
+      handler = 0;
+      hold = 0;
+      motion = 0;
+      value = pos 0;
+    }
+
+-- Events 7, Refusals 25: the answer of a run that was not refused; a record has 12 bytes.
+unfoldable pub ranAs : Course → Ran
+ranAs c =
+    record {
+      number = 0;
+      index = 0;
+      reason = c .reason;
+      turns = c .turns;
+      records = length (c .records) / 12;
+      state = stateOf (c .machine);
+    }
+
+unfoldable pub refusedAs : ℕ → ℕ → Ran
+refusedAs number index = record { number = number; index = index; reason = 0; turns = 0; records = 0; state = noState }
