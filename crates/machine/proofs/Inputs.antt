@@ -1,6 +1,6 @@
 -- The four inputs are 0 or 1 at the start, after every turn and after every good event.
 -- Assumes nothing.
-use mathlib.Core.Path.{_≡_, refl, sym, subst, _∙_}
+use mathlib.Core.Path.{_≡_, refl, sym, ap, subst, _∙_}
 use mathlib.Core.Bool.{Bool, true, false, cond, _&&_, _||_, and-eq-true-iff, or-false}
 use mathlib.Core.List.{List, [], _∷_}
 use Prim.Native.Nat.{ℕ, zero, suc, _+_, _*_, _≤_, _<_}
@@ -8,7 +8,7 @@ use native.Mathlib.Omega.{arith}
 use borrow.Author.Tests.{ltb-true, ltb-false, eqb-true, eqb-false, leb-true, eq-eqb, ne-eqb}
 use lib.Dec.{eqb, leb, ltb}
 use lib.IntN.{ℤ, pos}
-use lib.ListN.{length, set}
+use lib.ListN.{length, set, length-set}
 use lib.Seq.{sets, set-out, getD-set-same, getD-set-other}
 use Rattle.numbers.specs.Tests.{between, eqZ}
 use Rattle.program.specs.Variables.{inRange, rangeOf, literals, startVariables, allInputs}
@@ -78,7 +78,7 @@ module _ (m : Machine) (h : Inputs (m .variables)) where
   unfolding inMotion
   inputs-moving motion = inputs-below 14 (movingBit motion) (omega arith) h
 
-  inputs-effect : (cells : ℕ) (e : Effect) → Sound (m .variables) (m .kept) e → Inputs (turn cells e m .machine .variables)
+  inputs-effect : (cells : ℕ) (e : Effect) → Sound (m .variables) (m .places .kept) e → Inputs (turn cells e m .machine .variables)
   unfolding turn called returned
   inputs-effect cells (Fails error) s = rw (failed-variables m error) (inputs-below 15 (pos 1) (omega arith) (inputs-below 10 (pos error) (omega arith) h))
   inputs-effect cells (Stores v z) s = inputs-stored (m .variables) h v z s
@@ -97,8 +97,8 @@ module _ (m : Machine) (h : Inputs (m .variables)) where
 
   -- After a turn, whatever the statement.
   pub inputs-turn : {R : Type 0} (place number : R → ℕ) (cells : ℕ) (s : Statement R)
-      → Inputs (turn cells (effect place number (m .variables) (m .kept) (m .hold) s) m .machine .variables)
-  inputs-turn place number cells s = inputs-effect cells (effect place number (m .variables) (m .kept) (m .hold) s) (sound (m .variables) (m .kept) place number (m .hold) s)
+      → Inputs (turn cells (effect place number (m .variables) (m .places .kept) (m .hold) s) m .machine .variables)
+  inputs-turn place number cells s = inputs-effect cells (effect place number (m .variables) (m .places .kept) (m .hold) s) (sound (m .variables) (m .places .kept) place number (m .hold) s)
 
 -- A good event of kind 1 is for an input, with 0 or 1.
 by-kind : (zeros k : ℕ) (a b c : Bool) → k ≡ 1 → (eqb zeros 0 && ((eqb k 1 && a) || ((eqb k 2 && b) || (eqb k 3 && c)))) ≡ true → a ≡ true
@@ -195,3 +195,22 @@ module _ {e : Event} {vars : List ℤ} {motion : Motion} where
 -- After a good event, the inputs are still 0 or 1.
 pub inputs-happened : (m : Machine) {e : Event} {vars vars′ : List ℤ} {motion motion′ : Motion} → Inputs vars → goodEvent e ≡ true → Happened e vars motion vars′ motion′ → Inputs vars′
 inputs-happened m {e} {vars} {motion = motion} h g p = rw (← p .each m) at (inputs-happens (moving vars motion m) h e g)
+
+-- An event leaves as many variables as there were.
+arrived-size : (k : Motion) (m : Machine) → length (arrivedBy k m .variables) ≡ length (m .variables)
+unfolding arrivedBy inMotion
+arrived-size Still m = refl
+arrived-size (To z) m = simp length-set
+arrived-size (Slewing z) m = refl
+
+chosen-size : (a b : Bool) (x y z : Machine) (n : ℕ) → length (x .variables) ≡ n → length (y .variables) ≡ n → length (z .variables) ≡ n → length (cond a x (cond b y z) .variables) ≡ n
+chosen-size true b x y z n h k l = h
+chosen-size false true x y z n h k l = k
+chosen-size false false x y z n h k l = l
+
+happens-size : (e : Event) (m : Machine) → length (happens e m .variables) ≡ length (m .variables)
+unfolding happens input
+happens-size e m = chosen-size (eqb (e .kind) 1) (eqb (e .kind) 2) _ _ _ _ (simp length-set) (arrived-size (m .motion) m) (simp length-set)
+
+pub size-happened : (m : Machine) {e : Event} {vars vars′ : List ℤ} {motion motion′ : Motion} → Happened e vars motion vars′ motion′ → length vars′ ≡ length vars
+size-happened m {e} {vars} {motion = motion} p = ap (λ (x : Machine). length (x .variables)) (p .each m) ∙ happens-size e (moving vars motion m)

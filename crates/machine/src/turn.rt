@@ -1,19 +1,25 @@
 // One turn: the effect of the statement, applied to the machine.
 ghost use mathlib.Core.Path.{_≡_};
-ghost use Prim.Native.Nat.{_<_};
-ghost use lib.IntN.{pos};
+ghost use mathlib.Core.Bool.{false};
+ghost use mathlib.Core.List.{List};
+ghost use Prim.Native.Nat.{_-_, _≤_, _<_};
+ghost use lib.IntN.{ℤ, pos};
 ghost use lib.ListN.{length, set};
-ghost use Rattle.program.specs.Cells.{same, statementOf};
-ghost use Rattle.effects.specs.Effects.{effect};
-ghost use Rattle.machine.specs.Turn.{withVariables, at, withHandler, onward, nothing, recorded, turned, stored, storeRecord, movingBit, inMotion, slew, called, returned, held, failed, turn};
+ghost use Rattle.effects.specs.declared.Effect.the-variants.{Fails};
+ghost use Rattle.machine.specs.Turn.{at, withHandler, onward, nothing, recorded, turned, stored, storeRecord, movingBit, inMotion, slew, called, returned, held, failed, turn};
+ghost use Rattle.machine.specs.Events.{badEvents, eventCount};
+ghost use Rattle.machine.specs.Code.{Inputs, Ready, acts, changed, joined, whole, turnBy};
+use crate::Control;
 use crate::Machine;
 use crate::Motion;
 use crate::Places;
 use crate::Record;
+use crate::Settled;
 use crate::Turned;
 use crate::calls::keep;
 use crate::calls::last_place;
 use crate::calls::release;
+use crate::events::reach;
 use effects::Effect;
 use effects::doing::effect;
 use program::Cell;
@@ -95,64 +101,69 @@ fn store(vars: &mut [i32; 64], v: u32, value: i32)
     }
 }
 
-impl Machine {
-    // The numbers of variables are below this.
-    pub const VARIABLES: u32 = 64;
+// ER becomes the error, EF becomes 1.
+fn flag(vars: &mut [i32; 64], error: u8)
+    ensures { λ r. ⌜ now (vars .exit) ≡ set (set (now (vars .entry)) 10 (pos error)) 15 (pos 1) ⌝ }
+{
+    let number = Variable::ER as usize;
+    let flag = Variable::EF as usize;
+    vars[number] = error as i32;
+    vars[flag] = 1;
+}
 
-    // The handler of a machine that has none: no cell has this number.
-    pub const NO_HANDLER: u16 = 65535;
+// MV follows the motion.
+fn set_moving(vars: &mut [i32; 64], motion: Motion)
+    ensures { λ r. ⌜ now (vars .exit) ≡ set (now (vars .entry)) 14 (movingBit motion) ⌝ }
+{
+    let moving = Variable::MV as usize;
+    vars[moving] = motion.bit();
+}
 
-    // The motion changes, and MV with it.
-    pub fn in_motion(self, motion: Motion) -> Machine
-        ensures { λ r. ⌜ r ≡ inMotion motion self ⌝ }
-    {
-        let mut variables = self.variables;
-        let places = self.places;
-        let moving = Variable::MV as usize;
-        variables[moving] = motion.bit();
-        Machine {
-            variables: variables,
-            next: self.next,
-            places: places,
-            kept: self.kept,
-            handler: self.handler,
-            hold: self.hold,
-            motion: motion,
-        }
+// What an effect does to the variables.
+fn change(vars: &mut [i32; 64], does: Effect)
+    requires { ⌜ length (now vars) ≡ 64 ⌝ }
+    ensures { λ r. ⌜ now (vars .exit) ≡ changed does (now (vars .entry)) ⌝ }
+{
+    match does {
+        Effect::Fails(error) => flag(vars, error),
+        Effect::Stores(v, value) => store(vars, v, value),
+        Effect::Moves {
+            target,
+            kind,
+            value,
+        } => set_moving(vars, Motion::To(target)),
+        Effect::Slews(velocity) => set_moving(vars, Motion::slew(velocity)),
+        _ => {}
     }
+}
 
+impl Control {
     // A call keeps the following cell.
-    fn called(mut self, cell: u16) -> Machine
-        requires { ⌜ (self .next < 65535) × (self .kept < 8) ⌝ }
-        ensures { λ r. ⌜ r ≡ called cell self ⌝ }
+    fn called(mut self, cell: u16) -> Control
+        requires { ⌜ (self .next < 65535) × (self .places .kept < 8) ⌝ }
+        ensures { λ r. ⌜ ((vars : List ℤ) → joined vars r ≡ called cell (joined vars self)) ⌝ }
     {
         let places = self.places;
-        let more = keep(places, self.kept, self.next + 1);
-        let cells = more.cells;
-        self.places = cells;
-        self.kept = more.kept;
+        self.places = keep(places, self.next + 1);
         self.next = cell;
         self
     }
 
     // A return goes to the place kept last.
-    fn returned(mut self) -> Machine
-        requires { ⌜ 0 < self .kept ⌝ }
-        ensures { λ r. ⌜ r ≡ returned self ⌝ }
+    fn returned(mut self) -> Control
+        requires { ⌜ 0 < self .places .kept ⌝ }
+        ensures { λ r. ⌜ ((vars : List ℤ) → joined vars r ≡ returned (joined vars self)) ⌝ }
     {
         let places = self.places;
-        let fewer = release(places, self.kept);
-        let cells = fewer.cells;
-        self.next = last_place(places, self.kept);
-        self.places = cells;
-        self.kept = fewer.kept;
+        self.next = last_place(places);
+        self.places = release(places);
         self
     }
 
     // The cell is left with the last turn of the hold.
-    fn held(mut self, turns: u32) -> Machine
+    fn held(mut self, turns: u32) -> Control
         requires { ⌜ self .next < 65535 ⌝ }
-        ensures { λ r. ⌜ r ≡ held turns self ⌝ }
+        ensures { λ r. ⌜ ((vars : List ℤ) → joined vars r ≡ held turns (joined vars self)) ⌝ }
     {
         self.hold = turns;
         if 0 < turns {
@@ -162,61 +173,50 @@ impl Machine {
         self
     }
 
-    // ER becomes the error, EF this flag.
-    fn flagged(mut self, error: u8, raised: i32) -> Machine
-        ensures { λ r. ⌜ r ≡ withVariables (set (set (self .variables) 10 (pos error)) 15 raised) self ⌝ }
-    {
-        let number = Variable::ER as usize;
-        let flag = Variable::EF as usize;
-        self.variables[number] = error as i32;
-        self.variables[flag] = raised;
-        self
-    }
-
     // The handler is this cell, or none.
-    fn with_handler(mut self, cell: u16) -> Machine
-        ensures { λ r. ⌜ r ≡ withHandler cell self ⌝ }
+    fn with_handler(mut self, cell: u16) -> Control
+        ensures { λ r. ⌜ ((vars : List ℤ) → joined vars r ≡ withHandler cell (joined vars self)) ⌝ }
     {
         self.handler = cell;
         self
     }
 
     // The turn ends on this cell.
-    fn at(mut self, cell: u16) -> Turned
-        ensures { λ r. ⌜ r ≡ turned (at cell self) nothing ⌝ }
+    fn at(mut self, cell: u16) -> Settled
+        ensures { λ r. ⌜ ((vars : List ℤ) → whole vars r ≡ turned (at cell (joined vars self)) nothing) ⌝ }
     {
         self.next = cell;
         self.here()
     }
 
     // The turn ends where the machine stands.
-    fn here(self) -> Turned
-        ensures { λ r. ⌜ r ≡ turned self nothing ⌝ }
+    fn here(self) -> Settled
+        ensures { λ r. ⌜ ((vars : List ℤ) → whole vars r ≡ turned (joined vars self) nothing) ⌝ }
     {
-        Turned {
-            machine: self,
+        Settled {
+            control: self,
             wrote: Record::nothing(),
             stops: false,
         }
     }
 
     // The turn ends on the following cell, with a record.
-    fn onward(mut self, wrote: Record) -> Turned
+    fn onward(mut self, wrote: Record) -> Settled
         requires { ⌜ self .next < 65535 ⌝ }
-        ensures { λ r. ⌜ r ≡ turned (onward self) wrote ⌝ }
+        ensures { λ r. ⌜ ((vars : List ℤ) → whole vars r ≡ turned (onward (joined vars self)) wrote) ⌝ }
     {
         self.next = self.next + 1;
-        Turned {
-            machine: self,
+        Settled {
+            control: self,
             wrote: wrote,
             stops: false,
         }
     }
 
-    // An error: on to the next cell, or to the handler, or with no place free for that the run stops.
-    fn failed(self, error: u8) -> Turned
+    // An error: on at the following cell, or to the handler, or with no place free for that the run stops.
+    fn failed(self, error: u8) -> Settled
         requires { ⌜ self .next < 65535 ⌝ }
-        ensures { λ r. ⌜ r ≡ failed error self ⌝ }
+        ensures { λ r. ⌜ ((vars : List ℤ) → whole (changed (Fails error) vars) r ≡ failed error (joined vars self)) ⌝ }
     {
         let wrote = Record {
             kind: Record::FAILED,
@@ -224,47 +224,49 @@ impl Machine {
             value: error as i32,
         };
         if self.handler == Machine::NO_HANDLER {
-            return self.flagged(error, 1).onward(wrote);
+            return self.onward(wrote);
         }
-        if self.kept < Places::MOST {
-            let entered = self.flagged(error, 1).with_handler(Machine::NO_HANDLER);
-            return Turned {
-                machine: entered.called(self.handler),
+        if self.places.kept < Places::MOST {
+            return Settled {
+                control: self.with_handler(Machine::NO_HANDLER).called(self.handler),
                 wrote: wrote,
                 stops: false,
             };
         }
-        Turned {
-            machine: self.flagged(error, 1),
+        Settled {
+            control: self,
             wrote: wrote,
             stops: true,
         }
     }
 
     // The axis moves, by a statement of this kind and value.
-    fn moved(self, motion: Motion, kind: u8, value: i32) -> Turned
+    fn moved(self, motion: Motion, kind: u8, value: i32) -> Settled
         requires { ⌜ self .next < 65535 ⌝ }
-        ensures { λ r. ⌜ r ≡ turned (onward (inMotion motion self)) (recorded kind 0 value) ⌝ }
+        ensures { λ r. ⌜ ((vars : List ℤ) → whole (set vars 14 (movingBit motion)) r ≡ turned (onward (inMotion motion (joined vars self))) (recorded kind 0 value)) ⌝ }
     {
-        self.in_motion(motion).onward(Record {
+        let places = self.places;
+        Control {
+            next: self.next,
+            places: places,
+            handler: self.handler,
+            hold: self.hold,
+            motion: motion,
+        }.onward(Record {
             kind: kind,
             number: 0,
             value: value,
         })
     }
 
-    // The next state, and what the turn records, of a program with so many cells.
-    pub fn turn(mut self, cell: Cell, cells: u16) -> Turned
-        requires { ⌜ self .next < 65535 ⌝ }
-        ensures { λ r. ⌜ r ≡ turn cells (effect same same (self .variables) (self .kept) (self .hold) (statementOf cell)) self ⌝ }
+    // What an effect comes to besides the variables, in a program with so many cells.
+    fn settled(self, does: Effect, cells: u16) -> Settled
+        requires { ⌜ (self .next < 65535) × Ready (self .places .kept) does ⌝ }
+        ensures { λ r. ⌜ ((vars : List ℤ) → whole (changed does vars) r ≡ turn cells does (joined vars self)) ⌝ }
     {
-        let does = effect(cell, &self.variables, self.kept, self.hold);
         match does {
             Effect::Fails(error) => self.failed(error),
-            Effect::Stores(v, value) => {
-                store(&mut self.variables, v, value);
-                self.onward(Record::stored(v, value))
-            }
+            Effect::Stores(v, value) => self.onward(Record::stored(v, value)),
             Effect::Passes => self.onward(Record::nothing()),
             Effect::Goes(place) => self.at(place),
             Effect::Calls(place) => self.called(place).here(),
@@ -286,6 +288,60 @@ impl Machine {
                 number: v,
                 value: value,
             }),
+        }
+    }
+}
+
+impl Machine {
+    // The numbers of variables are below this.
+    pub const VARIABLES: u32 = 64;
+
+    // The handler of a machine that has none: no cell has this number.
+    pub const NO_HANDLER: u16 = 65535;
+
+    // The next state, and what the turn records, of a program with so many cells: the events act, from the one with the first number to the one before
+    // the last, then the statement.
+    pub fn turn(self, cell: Cell, cells: u16, events: &[u8], first: usize, last: usize) -> Turned
+        requires { ⌜ (self .next < 65535) × Inputs (self .variables) × (badEvents (now events) ≡ false) × ((first ≤ last) × (last ≤ eventCount (now events))) × (eventCount (now events) ≤ 4096) ⌝ }
+        ensures { λ r. ⌜ r ≡ turnBy cells cell (acts (now (events .entry)) first (last - first) self) ⌝ }
+    {
+        let mut variables = self.variables;
+        let before = self.motion;
+        let places = self.places;
+        let motion = reach(&mut variables, before, events, first, last);
+        let does = effect(cell, &variables, self.places.kept, self.hold);
+        change(&mut variables, does);
+        let settled = Control {
+            next: self.next,
+            places: places,
+            handler: self.handler,
+            hold: self.hold,
+            motion: motion,
+        }.settled(does, cells);
+        settled.turned(variables)
+    }
+}
+
+impl Settled {
+    // With the variables.
+    fn turned(self, variables: [i32; 64]) -> Turned
+        ensures { λ r. ⌜ r ≡ whole variables self ⌝ }
+    {
+        let control = self.control;
+        let places = control.places;
+        let motion = control.motion;
+        let wrote = self.wrote;
+        Turned {
+            machine: Machine {
+                variables: variables,
+                next: control.next,
+                places: places,
+                handler: control.handler,
+                hold: control.hold,
+                motion: motion,
+            },
+            wrote: wrote,
+            stops: self.stops,
         }
     }
 }

@@ -18,6 +18,7 @@ use Rattle.machine.specs.declared.Machine.{Machine}
 use Rattle.machine.specs.declared.Turned.{Turned}
 use Rattle.machine.specs.declared.Event.{Event}
 use Rattle.machine.specs.Turn.{startMachine, turn}
+<<<<<<< HEAD
 use Rattle.machine.specs.Events.{eventCount, recordBytes}
 use Rattle.machine.specs.Run.{Course, ended, after, runFrom, over}
 use Rattle.machine.specs.Code.{Inputs}
@@ -27,18 +28,29 @@ use Rattle.running.specs.declared.Stepped.{Stepped}
 use Rattle.running.specs.Courses.{cellActs, imageCourse}
 use Rattle.running.specs.Code.{eventsFrom, ReachedBy, SteppedBy, EndedAs}
 use Rattle.running.proofs.Scripts.{events-all}
+=======
+use Rattle.machine.specs.Events.{eventCount, badEvents, recordBytes}
+use Rattle.machine.specs.Run.{Course, ended, after, reach, runFrom}
+use Rattle.machine.specs.Code.{Inputs, acts, turnBy}
+use Rattle.machine.proofs.Inputs.{inputs-start, inputs-turn}
+use Rattle.machine.proofs.Written.{record-most}
+use Rattle.running.specs.Courses.{cellActs, imageCourse, over}
+use Rattle.running.specs.Code.{eventsFrom, DueBefore, SteppedBy, EndedAs}
+use Rattle.running.proofs.Scripts.{events-all, acts-reach, acts-next, inputs-acts}
+>>>>>>> a4a78b8 (fast patch)
 
 -- One turn: what the events reach, then what the statement at the next cell gives.
-pub stepped-by : {s script : List ℕ} {cells t k n : ℕ} {m here : Machine} {c : Cell} {d : Turned} → ReachedBy script t k m here n → c ≡ cellAt s (here .next)
-    → d ≡ turn cells (effect same same (here .variables) (here .kept) (here .hold) (statementOf c)) here
-    → SteppedBy s cells script t k m (record { turned = d; left = n })
-unfolding cellActs
-stepped-by {cells = cells} {here = here} {c = c} er ec ed =
+pub stepped-by : {s script : List ℕ} {cells t k n : ℕ} {m : Machine} {c : Cell} {d : Turned} → badEvents script ≡ false → Inputs (m .variables) → DueBefore script t k n → c ≡ cellAt s (m .next)
+    → d ≡ turnBy cells c (acts script k (n - k) m) → SteppedBy s cells script t k m d n
+unfolding cellActs turnBy
+stepped-by {s} {script} {cells} {t} {k} {n} {m} {c} g i due ec ed =
+    let a = acts-reach script t k n m due in
+    let e : c ≡ cellAt s (acts script k (n - k) m .next) = ec ∙ ap (cellAt s) (sym (acts-next script t k n m due)) in
     record {
-      turned = rw (← er .machine, ← ec) ed;
-      left = er .left;
-      within = er .within;
-      inputs = rw ed (inputs-turn here (er .inputs) same same cells (statementOf c));
+      turned = rw (a, ← e) ed;
+      left = rw a;
+      within = due .within;
+      inputs = rw ed (inputs-turn (acts script k (n - k) m) (inputs-acts script g t k n m due i) same same cells (statementOf c));
     }
 
 -- The run from turn t on, with the events from number k on.
@@ -59,21 +71,21 @@ module _ (s script : List ℕ) (budget : ℕ) where
   run-spent t k m h l = let e : budget - t ≡ 0 = omega arith in rw (e, lt-leb (cellCount s) (m .next) h)
 
   -- One turn is taken.
-  module _ (t k : ℕ) (m : Machine) (h : m .next < cellCount s) (l : t < budget) {r : Stepped} (er : SteppedBy s (cellCount s) script t k m r) where
+  module _ (t k : ℕ) (m : Machine) (h : m .next < cellCount s) (l : t < budget) {d : Turned} {n : ℕ} (er : SteppedBy s (cellCount s) script t k m d n) where
     abbrev bytes : List ℕ
-    bytes = recordBytes t (r .turned .wrote)
+    bytes = recordBytes t (d .wrote)
 
-    run-stopped : r .turned .stops ≡ true → rest t k m ≡ after bytes (ended 2 (t + 1) (r .turned .machine))
+    run-stopped : d .stops ≡ true → rest t k m ≡ after bytes (ended 2 (t + 1) (d .machine))
     unfolding runFrom
     run-stopped e =
-        let n : budget - t ≡ suc (budget - (t + 1)) = omega arith in
-        rw (n, lt-leb (cellCount s) (m .next) h, ← er .turned, e, add-one t)
+        let e′ : budget - t ≡ suc (budget - (t + 1)) = omega arith in
+        rw (e′, lt-leb (cellCount s) (m .next) h, ← er .turned, e, add-one t)
 
-    run-goes : r .turned .stops ≡ false → rest t k m ≡ after bytes (rest (t + 1) (r .left) (r .turned .machine))
+    run-goes : d .stops ≡ false → rest t k m ≡ after bytes (rest (t + 1) n (d .machine))
     unfolding runFrom
     run-goes e =
-        let n : budget - t ≡ suc (budget - (t + 1)) = omega arith in
-        rw (n, lt-leb (cellCount s) (m .next) h, ← er .turned, e, add-one t, er .left)
+        let e′ : budget - t ≡ suc (budget - (t + 1)) = omega arith in
+        rw (e′, lt-leb (cellCount s) (m .next) h, ← er .turned, e, add-one t, er .left)
 
 -- Bytes written from a place on: what stands before their end, and behind it.
 module _ (at : ℕ) (b bs : List ℕ) (fits : at + length bs ≤ length b) where
@@ -159,25 +171,25 @@ module _ {s script : List ℕ} {budget : ℕ} {b₀ : List ℕ} where
     budget-used h l = ended-as (rw (run-spent s script budget t k m (omega arith) l) at (u .written))
 
     -- One turn is taken, and its record is written.
-    module _ (room : 12 * budget ≤ length b₀) (h : m .next < cells) (l : t < budget) {r : Stepped} (er : SteppedBy s cells script t k m r)
-        {at′ : ℕ} {b′ : List ℕ} (ea : at′ ≡ at + length (recordBytes t (r .turned .wrote))) (eb : b′ ≡ sets b at (recordBytes t (r .turned .wrote))) where
-      fits : at + length (recordBytes t (r .turned .wrote)) ≤ length b
-      fits = omega (arith, record-most t (r .turned .wrote), u .most, u .size)
+    module _ (room : 12 * budget ≤ length b₀) (h : m .next < cells) (l : t < budget) {d : Turned} {n : ℕ} (er : SteppedBy s cells script t k m d n)
+        {at′ : ℕ} {b′ : List ℕ} (ea : at′ ≡ at + length (recordBytes t (d .wrote))) (eb : b′ ≡ sets b at (recordBytes t (d .wrote))) where
+      fits : at + length (recordBytes t (d .wrote)) ≤ length b
+      fits = omega (arith, record-most t (d .wrote), u .most, u .size)
 
-      more : (left : Course) → rest s script budget t k m ≡ after (recordBytes t (r .turned .wrote)) left → Written (imageCourse s script budget) b₀ b′ at′ left
-      more left e = rw (ea, eb) (written-more (recordBytes t (r .turned .wrote)) (u .written) fits e)
+      more : (left : Course) → rest s script budget t k m ≡ after (recordBytes t (d .wrote)) left → Written (imageCourse s script budget) b₀ b′ at′ left
+      more left e = rw (ea, eb) (written-more (recordBytes t (d .wrote)) (u .written) fits e)
 
       -- Turn 25: the run stops after the turn.
-      pub stopped : r .turned .stops ≡ true → Ends 2 (t + 1) at′ (r .turned .machine) (imageCourse s script budget) b₀ b′
-      stopped e = ended-as (more (ended 2 (t + 1) (r .turned .machine)) (run-stopped s script budget t k m (omega arith) l (rw en at er) e))
+      pub stopped : d .stops ≡ true → Ends 2 (t + 1) at′ (d .machine) (imageCourse s script budget) b₀ b′
+      stopped e = ended-as (more (ended 2 (t + 1) (d .machine)) (run-stopped s script budget t k m (omega arith) l (rw en at er) e))
 
-      pub goes-on : r .turned .stops ≡ false → Underway s script budget b₀ b′ (r .turned .machine) (t + 1) (r .left) at′
+      pub goes-on : d .stops ≡ false → Underway s script budget b₀ b′ (d .machine) (t + 1) n at′
       goes-on e =
           record {
             turns = omega arith;
             within = er .within;
             inputs = er .inputs;
-            most = omega (arith, record-most t (r .turned .wrote), u .most);
-            size = rw eb (length-sets b at (recordBytes t (r .turned .wrote)) ∙ u .size);
-            written = more (rest s script budget (t + 1) (r .left) (r .turned .machine)) (run-goes s script budget t k m (omega arith) l (rw en at er) e);
+            most = omega (arith, record-most t (d .wrote), u .most);
+            size = rw eb (length-sets b at (recordBytes t (d .wrote)) ∙ u .size);
+            written = more (rest s script budget (t + 1) n (d .machine)) (run-goes s script budget t k m (omega arith) l (rw en at er) e);
           }

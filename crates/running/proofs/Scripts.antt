@@ -19,11 +19,13 @@ use Rattle.machine.specs.declared.Motion.{Motion}
 use Rattle.machine.specs.declared.Motion.the-variants.{Still, To, Slewing}
 use Rattle.machine.specs.declared.Event.{Event}
 use Rattle.machine.specs.Turn.{withVariables, startMachine, inMotion}
-use Rattle.machine.specs.Events.{eventAt, eventCount, events, happens, arrivedBy, badScript}
+use Rattle.machine.specs.Events.{eventAt, eventCount, events, happens, arrivedBy, badScript, badEvents}
 use Rattle.machine.specs.Run.{Reached, reach}
-use Rattle.machine.specs.Code.{Inputs}
+use Rattle.machine.specs.Code.{Inputs, acts}
+use Rattle.machine.proofs.Inputs.{inputs-happens}
+use Rattle.machine.proofs.Scripts.{good-events}
 use Rattle.machine.proofs.Written.{start-more}
-use Rattle.running.specs.Code.{eventsFrom, DueBefore, ReachedBy}
+use Rattle.running.specs.Code.{eventsFrom, DueBefore}
 
 -- How long a list is that has f at each number, and what stands in it.
 module _ {A : Type 0} (f : ℕ → A) where
@@ -104,12 +106,27 @@ module _ (s : List ℕ) where
     pub due-all : k ≡ eventCount s → DueBefore s t first k
     due-all e = record { order = o; within = omega arith; each = h; waits = λ m. reach-none t k m (omega arith) }
 
-  -- All events of the turn have acted.
-  pub reached-by : (t first k : ℕ) {m here : Machine} → Inputs (here .variables) → DueBefore s t first k → reach t (eventsFrom s k) here ≡ reach t (eventsFrom s first) m
-      → ReachedBy s t first m here k
-  reached-by t first k {here = here} i d h =
-      let r = sym (d .waits here) ∙ h in
-      record { machine = ap (λ (x : Reached). x .machine) r; left = ap (λ (x : Reached). x .left) r; within = d .within; inputs = i }
+  -- The events of the turn act one after the other; those behind them are left.
+  acts-by : (t last : ℕ) → ((m : Machine) → reach t (eventsFrom s last) m ≡ record { machine = m; left = eventsFrom s last }) → last ≤ eventCount s → (n first : ℕ) (m : Machine) → first + n ≡ last
+      → ((k : ℕ) → k < last → first ≤ k → eventAt s k .turn ≡ t) → reach t (eventsFrom s first) m ≡ record { machine = acts s first n m; left = eventsFrom s last }
+  unfolding acts
+  acts-by t last w i zero first m e h = let q : first ≡ last = omega arith in rw q (w m)
+  acts-by t last w i (suc n) first m e h =
+      sym (reach-more t first m (omega arith) refl (h first (omega arith) (omega arith)) refl)
+      ∙ acts-by t last w i n (first + 1) (happens (eventAt s first) m) (omega arith) (λ k l o. h k l (omega arith))
+
+  pub acts-reach : (t first last : ℕ) (m : Machine) → DueBefore s t first last → reach t (eventsFrom s first) m ≡ record { machine = acts s first (last - first) m; left = eventsFrom s last }
+  acts-reach t first last m d = let o = d .order in acts-by t last (d .waits) (d .within) (last - first) first m (omega arith) (d .each)
+
+  -- The inputs are still 0 or 1 after good events.
+  module _ (g : badEvents s ≡ false) where
+    inputs-by : (n k : ℕ) (m : Machine) → k + n ≤ eventCount s → Inputs (m .variables) → Inputs (acts s k n m .variables)
+    unfolding acts
+    inputs-by zero k m l h = h
+    inputs-by (suc n) k m l h = inputs-by n (k + 1) (happens (eventAt s k) m) (omega arith) (inputs-happens m h (eventAt s k) (good-events s k g (omega arith)))
+
+    pub inputs-acts : (t first last : ℕ) (m : Machine) → DueBefore s t first last → Inputs (m .variables) → Inputs (acts s first (last - first) m .variables)
+    inputs-acts t first last m d h = let o = d .order in let i = d .within in inputs-by (last - first) first m (omega arith) h
 
 -- An event leaves the next cell as it is.
 arrived-next : (k : Motion) (m : Machine) → arrivedBy k m .next ≡ m .next
@@ -136,5 +153,5 @@ reach-next t (e ∷ es) m = by-turn (eqb (e .turn) t) (reach-next t es (happens 
     by-turn true h = h
     by-turn false h = refl
 
-pub reached-next : {s : List ℕ} {t k n : ℕ} {m here : Machine} → ReachedBy s t k m here n → here .next ≡ m .next
-reached-next {s} {t} {k} {m} e = rw (e .machine) (reach-next t (eventsFrom s k) m)
+pub acts-next : (s : List ℕ) (t first last : ℕ) (m : Machine) → DueBefore s t first last → acts s first (last - first) m .next ≡ m .next
+acts-next s t first last m d = sym (ap (λ (r : Reached). r .machine .next) (acts-reach s t first last m d)) ∙ reach-next t (eventsFrom s first) m

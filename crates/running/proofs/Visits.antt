@@ -15,11 +15,17 @@ use Rattle.numbers.proofs.Laws.{length-bytes}
 use Rattle.image.specs.Layout.{cellCount, startValues}
 use Rattle.machine.specs.declared.Machine.{Machine}
 use Rattle.machine.specs.declared.Event.{Event}
+<<<<<<< HEAD
 use Rattle.machine.specs.Turn.{startMachine}
 use Rattle.machine.specs.Events.{eventCount}
+=======
+use Rattle.machine.specs.declared.Turned.{Turned}
+use Rattle.machine.specs.Turn.{startMachine, turn}
+use Rattle.machine.specs.Events.{eventCount, recordBytes}
+use Rattle.machine.specs.Run.{Course, ended, after, reach, runFrom}
+>>>>>>> a4a78b8 (fast patch)
 use Rattle.machine.specs.Code.{Inputs}
 use Rattle.machine.proofs.Inputs.{inputs-start}
-use Rattle.running.specs.declared.Stepped.{Stepped}
 use Rattle.running.specs.Courses.{cellActs}
 use Rattle.running.specs.Visits.{visitsFrom, imageVisits, visitBytes, visitsOver}
 use Rattle.running.specs.Code.{eventsFrom, SteppedBy, VisitedAs}
@@ -44,18 +50,18 @@ module _ (s script : List ℕ) (budget : ℕ) where
   none-spent t k m l = let e : budget - t ≡ 0 = omega arith in rw e
 
   -- One turn is taken.
-  module _ (t k : ℕ) (m : Machine) (h : m .next < cellCount s) (l : t < budget) {r : Stepped} (er : SteppedBy s (cellCount s) script t k m r) where
-    visit-stopped : r .turned .stops ≡ true → rest t k m ≡ m .next ∷ []
+  module _ (t k : ℕ) (m : Machine) (h : m .next < cellCount s) (l : t < budget) {d : Turned} {n : ℕ} (er : SteppedBy s (cellCount s) script t k m d n) where
+    visit-stopped : d .stops ≡ true → rest t k m ≡ m .next ∷ []
     unfolding visitsFrom
     visit-stopped e =
-        let n : budget - t ≡ suc (budget - (t + 1)) = omega arith in
-        rw (n, lt-leb (cellCount s) (m .next) h, ← er .turned, e)
+        let e′ : budget - t ≡ suc (budget - (t + 1)) = omega arith in
+        rw (e′, lt-leb (cellCount s) (m .next) h, ← er .turned, e)
 
-    visit-goes : r .turned .stops ≡ false → rest t k m ≡ m .next ∷ rest (t + 1) (r .left) (r .turned .machine)
+    visit-goes : d .stops ≡ false → rest t k m ≡ m .next ∷ rest (t + 1) n (d .machine)
     unfolding visitsFrom
     visit-goes e =
-        let n : budget - t ≡ suc (budget - (t + 1)) = omega arith in
-        rw (n, lt-leb (cellCount s) (m .next) h, ← er .turned, e, add-one t, er .left)
+        let e′ : budget - t ≡ suc (budget - (t + 1)) = omega arith in
+        rw (e′, lt-leb (cellCount s) (m .next) h, ← er .turned, e, add-one t, er .left)
 
 -- The buffer has the places of t turns, and behind them what it had at the start, which is `b₀`; with the places still to come they give all.
 pub record Marked (all b₀ b : List ℕ) (t : ℕ) (left : List ℕ) : Type 0 where
@@ -124,21 +130,21 @@ module _ {s script : List ℕ} {budget : ℕ} {b₀ : List ℕ} where
     visited-spent l = all-marked (rw (none-spent s script budget t k m l) at (u .marked))
 
     -- One turn is taken, and its place is written.
-    module _ (room : 2 * budget ≤ length b₀) (h : m .next < cells) (l : t < budget) {r : Stepped} (er : SteppedBy s cells script t k m r)
+    module _ (room : 2 * budget ≤ length b₀) (h : m .next < cells) (l : t < budget) {d : Turned} {n : ℕ} (er : SteppedBy s cells script t k m d n)
         {b′ : List ℕ} (eb : b′ ≡ sets b (2 * t) (bytes 2 (m .next))) where
       more : (left : List ℕ) → rest s script budget t k m ≡ m .next ∷ left → Marked (imageVisits s script budget) b₀ b′ (t + 1) left
       more left e = rw eb (mark-more (rw e at (u .marked)) (omega (arith, u .size)))
 
       -- Turn 25: the run stops after the turn.
-      pub visited-stopped : r .turned .stops ≡ true → VisitedAs (imageVisits s script budget) (t + 1) b₀ b′
+      pub visited-stopped : d .stops ≡ true → VisitedAs (imageVisits s script budget) (t + 1) b₀ b′
       visited-stopped e = all-marked (more [] (visit-stopped s script budget t k m (omega arith) l (rw en at er) e))
 
-      pub passes-on : r .turned .stops ≡ false → Passing s script budget b₀ b′ (r .turned .machine) (t + 1) (r .left)
+      pub passes-on : d .stops ≡ false → Passing s script budget b₀ b′ (d .machine) (t + 1) n
       passes-on e =
           record {
             turns = omega arith;
             within = er .within;
             inputs = er .inputs;
             size = rw eb (length-sets b (2 * t) (bytes 2 (m .next)) ∙ u .size);
-            marked = more (rest s script budget (t + 1) (r .left) (r .turned .machine)) (visit-goes s script budget t k m (omega arith) l (rw en at er) e);
+            marked = more (rest s script budget (t + 1) n (d .machine)) (visit-goes s script budget t k m (omega arith) l (rw en at er) e);
           }

@@ -7,11 +7,11 @@ use lib.ListN.{length}
 use Rattle.numbers.specs.Tests.{listed}
 use Rattle.machine.specs.declared.Machine.{Machine}
 use Rattle.machine.specs.declared.Event.{Event}
+use Rattle.machine.specs.declared.Turned.{Turned}
 use Rattle.machine.specs.Events.{eventAt, eventCount}
 use Rattle.machine.specs.Turn.{turn}
 use Rattle.machine.specs.Run.{Course, reach, over}
 use Rattle.machine.specs.Code.{Inputs}
-use Rattle.running.specs.declared.Stepped.{Stepped}
 use Rattle.running.specs.declared.Ended.{Ended}
 use Rattle.running.specs.Courses.{cellActs}
 use Rattle.running.specs.Visits.{visitsOver}
@@ -27,19 +27,12 @@ pub record DueBefore (s : List ℕ) (t first last : ℕ) : Type 0 where
   pub each : (k : ℕ) → k < last → first ≤ k → eventAt s k .turn ≡ t
   pub waits : (m : Machine) → reach t (eventsFrom s last) m ≡ record { machine = m; left = eventsFrom s last }
 
--- The events of turn t have acted, from the one with the first number on; those from the last number on are left.
-pub record ReachedBy (s : List ℕ) (t first : ℕ) (m here : Machine) (last : ℕ) : Type 0 where
-  pub machine : here ≡ reach t (eventsFrom s first) m .machine
-  pub left : eventsFrom s last ≡ reach t (eventsFrom s first) m .left
-  pub within : last ≤ eventCount s
-  pub inputs : Inputs (here .variables)
-
 -- Turn t was taken: its events have acted, from the one with this number on, then the statement at the next cell.
-pub record SteppedBy (s : List ℕ) (cells : ℕ) (script : List ℕ) (t first : ℕ) (m : Machine) (r : Stepped) : Type 0 where
-  pub turned : let here = reach t (eventsFrom script first) m .machine in r .turned ≡ turn cells (cellActs s here) here
-  pub left : eventsFrom script (r .left) ≡ reach t (eventsFrom script first) m .left
-  pub within : r .left ≤ eventCount script
-  pub inputs : Inputs (r .turned .machine .variables)
+pub record SteppedBy (s : List ℕ) (cells : ℕ) (script : List ℕ) (t first : ℕ) (m : Machine) (d : Turned) (n : ℕ) : Type 0 where
+  pub turned : let here = reach t (eventsFrom script first) m .machine in d ≡ turn cells (cellActs s here) here
+  pub left : eventsFrom script n ≡ reach t (eventsFrom script first) m .left
+  pub within : n ≤ eventCount script
+  pub inputs : Inputs (d .machine .variables)
 
 -- A run went like this course, and its records stand in the buffer over what that held.
 pub record EndedAs (course : Course) (r : Ended) (old new : List ℕ) : Type 0 where

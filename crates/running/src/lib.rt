@@ -1,27 +1,18 @@
 // The run of an image, turn by turn.
 ghost use mathlib.Core.Path.{_≡_};
 ghost use mathlib.Core.Bool.{false};
-ghost use Prim.Native.Nat.{ℕ, _*_, _≤_, _<_};
+ghost use Prim.Native.Nat.{_*_, _≤_};
 ghost use lib.ListN.{length};
 ghost use Rattle.image.specs.Layout.{startValues};
 ghost use Rattle.machine.specs.Turn.{startMachine};
 ghost use Rattle.machine.specs.Events.{badScript, badEvents, eventCount};
-ghost use Rattle.machine.specs.Code.{Inputs};
 ghost use Rattle.running.specs.Courses.{imageCourse};
 ghost use Rattle.running.specs.Visits.{imageVisits};
-ghost use Rattle.running.specs.Code.{DueBefore, ReachedBy, SteppedBy, EndedAs, VisitedAs};
+ghost use Rattle.running.specs.Code.{DueBefore, EndedAs, VisitedAs};
 use machine::Machine;
-use machine::Turned;
-use machine::events::event_at;
 use machine::events::event_count;
-use machine::events::happen;
+use machine::events::whole_event;
 use machine::records::write_record;
-
-// What one turn came to, and the number of the first event after it.
-pub struct Stepped {
-    pub turned: Turned,
-    pub left: usize,
-}
 
 // How a run went: why it ended, after how many turns, with how many bytes of records, and in which state.
 pub struct Ended {
@@ -62,55 +53,13 @@ fn later(events: &[u8], turn: u32, first: usize) -> usize
     let count = event_count(events);
     let mut k = first;
     while k < count {
-        let event = event_at(events, k);
+        let event = whole_event(events, k);
         if event.turn != turn {
             return k;
         }
         k += 1;
     }
     k
-}
-
-// The machine once the events have acted in order, from the one with the first number to the one before the last.
-fn reach(events: &[u8], first: usize, last: usize, machine: Machine) -> Machine
-    requires { ⌜ (eventCount (now events) ≤ 4096) × (badEvents (now events) ≡ false) × ((first ≤ last) × (last ≤ eventCount (now events))) × Inputs (machine .variables) ⌝ }
-    ensures { λ r. ⌜ ((t : ℕ) → DueBefore (now (events .entry)) t first last → ReachedBy (now (events .entry)) t first machine r last) ⌝ }
-{
-    let mut variables = machine.variables;
-    let mut motion = machine.motion;
-    let mut k = first;
-    while k < last {
-        motion = happen(&mut variables, motion, event_at(events, k));
-        k += 1;
-    }
-    let places = machine.places;
-    Machine {
-        variables: variables,
-        next: machine.next,
-        places: places,
-        kept: machine.kept,
-        handler: machine.handler,
-        hold: machine.hold,
-        motion: motion,
-    }
-}
-
-// One turn of an image with so many cells: its events act, from the event with this number on, then the statement at the machine's next cell.
-pub fn step(
-    image: &[u8],
-    cells: u16,
-    events: &[u8],
-    turn: u32,
-    first: usize,
-    machine: Machine,
-) -> Stepped
-    requires { ⌜ (eventCount (now events) ≤ 4096) × (badEvents (now events) ≡ false) × (first ≤ eventCount (now events)) × Inputs (machine .variables) × (machine .next < cells) ⌝ }
-    ensures { λ r. ⌜ SteppedBy (now (image .entry)) cells (now (events .entry)) turn first machine r ⌝ }
-{
-    let left = later(events, turn, first);
-    let here = reach(events, first, left, machine);
-    let turned = here.turn(image::cell_at(image, here.next), cells);
-    Stepped { turned, left }
 }
 
 // The run of an image, against the events of a script and within a budget of turns. Its records go to the buffer.
@@ -130,12 +79,14 @@ pub fn course(image: &[u8], events: &[u8], budget: u32, records: &mut [u8]) -> E
         if budget <= turns {
             break Ended::BUDGET_USED;
         }
-        let stepped = step(image, cells, events, turns, event, machine);
-        bytes = write_record(records, bytes, turns, stepped.turned.wrote);
-        machine = stepped.turned.machine;
-        event = stepped.left;
+        let left = later(events, turns, event);
+        let cell = image::cell_at(image, machine.next);
+        let turned = machine.turn(cell, cells, events, event, left);
+        machine = turned.machine;
+        bytes = write_record(records, bytes, turns, turned.wrote);
+        event = left;
         turns += 1;
-        if stepped.turned.stops {
+        if turned.stops {
             break Ended::STOPPED;
         }
     };
@@ -165,11 +116,13 @@ pub fn visit(image: &[u8], events: &[u8], budget: u32, visits: &mut [u8]) -> usi
         }
         let at = PLACE_BYTES * (taken as usize);
         numbers::write(visits, at, PLACE_BYTES, machine.next as u64);
-        let stepped = step(image, cells, events, taken, event, machine);
-        machine = stepped.turned.machine;
-        event = stepped.left;
+        let left = later(events, taken, event);
+        let cell = image::cell_at(image, machine.next);
+        let turned = machine.turn(cell, cells, events, event, left);
+        machine = turned.machine;
+        event = left;
         taken += 1;
-        if stepped.turned.stops {
+        if turned.stops {
             return taken as usize;
         }
     }

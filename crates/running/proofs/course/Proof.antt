@@ -4,8 +4,9 @@ use mathlib.Core.Path.{_∙_}
 use Prim.Native.Nat.{_-_}
 use native.Mathlib.Omega.{arith}
 use borrow.Author.Needs.{needs}
+use Rattle.running.specs.Code.{SteppedBy}
 use Rattle.running.proofs.Scripts.{few-events}
-use Rattle.running.proofs.Courses.{Underway, underway, past-last, budget-used, stopped, goes-on}
+use Rattle.running.proofs.Courses.{Underway, underway, stepped-by, past-last, budget-used, stopped, goes-on}
 use Rattle.running.proofs.course.Statement.{statement}
 use Rattle.running.proofs.course.Tie as tie
 
@@ -26,35 +27,48 @@ started-requires c κs = search needs
 loop-holds : tie.Need-loop-holds Inv-loop μ-loop
 loop-holds c = underway (c .started .ensures)
 
-step-requires : tie.Need-step-requires Inv-loop μ-loop
-step-requires c κs =
-    let p = c .before .before .before .before .before .before .before .before .before .pre in
-    let u = c .before .before .before .loop .inv in
-    (few-events _ (p .0), p .1, u .within, u .inputs, c .before .if1 .left)
+later-requires : tie.Need-later-requires Inv-loop μ-loop
+later-requires c κs =
+    let l = c .before .before .before in
+    (few-events _ (l .before .before .before .before .before .before .pre .0), l .loop .inv .within)
+
+cell-at-requires : tie.Need-cell-at-requires Inv-loop μ-loop
+cell-at-requires c κs = search needs
+
+turn-requires : tie.Need-turn-requires Inv-loop μ-loop
+turn-requires c κs =
+    let l = c .before .before .before .before .before in
+    let p = l .before .before .before .before .before .before .pre in
+    let due = c .before .later .ensures in
+    (omega (arith, c .before .before .before .if1 .left), l .loop .inv .inputs, p .1, (due .order, due .within), few-events _ (p .0))
+
+-- the turn that was taken
+taken : (c : tie.After-turn Inv-loop μ-loop)
+    → let l = c .before .before .before .before .before .before in
+    SteppedBy (l .before .before .before .before .before .before .args .image .now) (l .before .before .cell-count .result) (l .before .before .before .before .before .before .args .events .now) (l .loop .turns) (l .loop .event) (l .loop .machine) (c .turn .result) (c .before .before .later .result)
+taken c =
+    let l = c .before .before .before .before .before .before in
+    stepped-by (l .before .before .before .before .before .before .pre .1) (l .loop .inv .inputs) (c .before .before .later .ensures) (c .before .cell-at .ensures) (c .turn .ensures)
 
 write-record-requires : tie.Need-write-record-requires Inv-loop μ-loop
 write-record-requires c κs =
-    let two = c .before .before in
-    let at = two .before .before .before in
-    let st = at .before .before .before .before .before .before in
-    omega (arith, st .pre .2, two .if2 .left, at .loop .inv .most, at .loop .inv .size)
+    let l = c .before .before .before .before .before .before .before .before in
+    omega (arith, l .before .before .before .before .before .before .pre .2, c .before .before .before .before .before .if2 .left, l .loop .inv .most, l .loop .inv .size)
 
 add-turns : tie.Need-add-turns Inv-loop μ-loop
 add-turns c =
-    let two = c .before .before .before .before .before .before in
-    let st = two .before .before .before .before .before .before .before .before .before in
-    record { fits = omega (arith, two .if2 .left, st .fits .budget .fits) }
+    let two = c .before .before .before .before .before .before .before .before in
+    record { fits = omega (arith, two .if2 .left, two .before .before .before .before .before .before .before .before .before .fits .budget .fits) }
 
 loop-less : tie.Need-loop-less Inv-loop μ-loop
-loop-less c = omega (arith, c .before .before .before .before .before .before .before .if2 .left)
+loop-less c = omega (arith, c .before .before .before .before .before .before .before .before .before .if2 .left)
 
 loop-again : tie.Need-loop-again Inv-loop μ-loop
 loop-again c =
-    let w = c .before .before .before .before in
-    let one = w .before .before .before .before in
-    let at = one .before .before in
-    goes-on (at .loop .inv) (at .before .before .cell-count .ensures) (at .before .before .before .before .before .before .pre .2) (one .if1 .left) (w .before .before .before .if2 .left)
-    (w .before .before .step .ensures) (w .write-record .ensures .0) (w .write-record .ensures .1) (c .if3 .left)
+    let w = c .before .before .before in
+    let l = w .before .before .before .before .before .before .before .before .before in
+    goes-on (l .loop .inv) (l .before .before .cell-count .ensures) (l .before .before .before .before .before .before .pre .2) (w .before .before .before .before .before .before .before .if1 .left) (w .before .before .before .before .before .before .if2 .left)
+    (taken (w .before .before .before)) (w .write-record .ensures .0) (w .write-record .ensures .1) (c .if3 .left)
 
 same-length : tie.Need-same-length Inv-loop μ-loop
 same-length c = c .before .before .loop .inv .size
@@ -70,16 +84,15 @@ returns-2 c = budget-used (c .before .before .before .loop .inv) (c .before .bef
 
 same-length-3 : tie.Need-same-length-3 Inv-loop μ-loop
 same-length-3 c =
-    let w = c .before .before .before .before in
-    w .write-record .kept .0 ∙ w .before .before .before .before .before .before .loop .inv .size
+    let w = c .before .before .before in
+    w .write-record .kept .0 ∙ w .before .before .before .before .before .before .before .before .before .loop .inv .size
 
 returns-3 : tie.Need-returns-3 Inv-loop μ-loop
 returns-3 c =
-    let w = c .before .before .before .before in
-    let one = w .before .before .before .before in
-    let at = one .before .before in
-    stopped (at .loop .inv) (at .before .before .cell-count .ensures) (at .before .before .before .before .before .before .pre .2) (one .if1 .left) (w .before .before .before .if2 .left)
-    (w .before .before .step .ensures) (w .write-record .ensures .0) (w .write-record .ensures .1) (c .if3 .taken)
+    let w = c .before .before .before in
+    let l = w .before .before .before .before .before .before .before .before .before in
+    stopped (l .loop .inv) (l .before .before .cell-count .ensures) (l .before .before .before .before .before .before .pre .2) (w .before .before .before .before .before .before .before .if1 .left) (w .before .before .before .before .before .before .if2 .left)
+    (taken (w .before .before .before)) (w .write-record .ensures .0) (w .write-record .ensures .1) (c .if3 .taken)
 
 pub course-spec : {M : Type 1} → statement M
 course-spec =
@@ -90,7 +103,9 @@ course-spec =
     cell-count-requires
     started-requires
     loop-holds
-    step-requires
+    later-requires
+    cell-at-requires
+    turn-requires
     write-record-requires
     add-turns
     loop-less

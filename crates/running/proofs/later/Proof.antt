@@ -24,14 +24,14 @@ event-count-requires c κs = search needs
 loop-holds : tie.Need-loop-holds Inv-loop μ-loop
 loop-holds c = let p = c .before .before .pre in (omega (arith, c .event-count .ensures, p .1), omega arith, λ j l o. absurd (omega arith))
 
-event-at-requires : tie.Need-event-at-requires Inv-loop μ-loop
-event-at-requires c κs = search needs
+whole-event-requires : tie.Need-whole-event-requires Inv-loop μ-loop
+whole-event-requires c κs = search needs
 
 returns : tie.Need-returns Inv-loop μ-loop
 returns c =
     let n = c .before .before .before .before .before .event-count .ensures in
     let l = c .before .before .before .before .loop in
-    due-before _ _ _ (l .k) (l .inv .1) (l .inv .2) (omega (arith, n, c .before .before .before .loop-test .taken)) (c .before .before .event-at .ensures) (c .if1 .taken)
+    due-before _ _ _ (l .k) (l .inv .1) (l .inv .2) (omega (arith, n, c .before .before .before .loop-test .taken)) (c .before .before .whole-event .ensures) (c .if1 .taken)
 
 add-k : tie.Need-add-k Inv-loop μ-loop
 add-k c = omega arith
@@ -44,7 +44,7 @@ loop-again c =
     let l = c .before .before .before .before .loop in (
       omega arith,
       omega arith,
-      below-more _ _ (l .inv .2) (λ o. ap (λ (e : Event). e .turn) (sym (c .before .before .event-at .ensures)) ∙ c .if1 .left),
+      below-more _ _ (l .inv .2) (λ o. ap (λ (e : Event). e .turn) (sym (c .before .before .whole-event .ensures)) ∙ c .if1 .left),
     )
 
 returns-2 : tie.Need-returns-2 Inv-loop μ-loop
@@ -61,7 +61,7 @@ later-spec =
     μ-loop
     event-count-requires
     loop-holds
-    event-at-requires
+    whole-event-requires
     returns
     add-k
     loop-less

@@ -4,7 +4,9 @@ use mathlib.Core.Path.{_∙_}
 use Prim.Native.Nat.{_-_}
 use native.Mathlib.Omega.{arith}
 use borrow.Author.Needs.{needs}
+use Rattle.running.specs.Code.{SteppedBy}
 use Rattle.running.proofs.Scripts.{few-events}
+use Rattle.running.proofs.Courses.{stepped-by}
 use Rattle.running.proofs.Visits.{Passing, passing, visited-past, visited-spent, visited-stopped, passes-on}
 use Rattle.running.proofs.visit.Statement.{statement}
 use Rattle.running.proofs.visit.Tie as tie
@@ -46,50 +48,56 @@ cast-write c = search needs
 write-requires : tie.Need-write-requires Inv-loop μ-loop
 write-requires c κs = search needs
 
-step-requires : tie.Need-step-requires Inv-loop μ-loop
-step-requires c κs =
-    let one = c .before .before .before .before .before in
-    let at = one .before .before .before in
-    let p = at .before .before .before .before .before .before .pre in
-    (few-events _ (p .0), p .1, at .loop .inv .within, at .loop .inv .inputs, one .if1 .left)
+later-requires : tie.Need-later-requires Inv-loop μ-loop
+later-requires c κs =
+    let l = c .before .before .before .before .before .before .before .before in
+    (few-events _ (l .before .before .before .before .before .before .pre .0), l .loop .inv .within)
+
+cell-at-requires : tie.Need-cell-at-requires Inv-loop μ-loop
+cell-at-requires c κs = search needs
+
+turn-requires : tie.Need-turn-requires Inv-loop μ-loop
+turn-requires c κs =
+    let l = c .before .before .before .before .before .before .before .before .before .before in
+    let p = l .before .before .before .before .before .before .pre in
+    let due = c .before .later .ensures in
+    (omega (arith, c .before .before .before .before .before .before .before .if1 .left), l .loop .inv .inputs, p .1, (due .order, due .within), few-events _ (p .0))
+
+-- the turn that was taken
+stepped : (c : tie.After-turn Inv-loop μ-loop)
+    → let l = c .before .before .before .before .before .before .before .before .before .before .before in
+    SteppedBy (l .before .before .before .before .before .before .args .image .now) (l .before .before .cell-count .result) (l .before .before .before .before .before .before .args .events .now) (l .loop .taken) (l .loop .event) (l .loop .machine) (c .turn .result) (c .before .before .later .result)
+stepped c =
+    let l = c .before .before .before .before .before .before .before .before .before .before .before in
+    stepped-by (l .before .before .before .before .before .before .pre .1) (l .loop .inv .inputs) (c .before .before .later .ensures) (c .before .cell-at .ensures) (c .turn .ensures)
 
 add-taken : tie.Need-add-taken Inv-loop μ-loop
 add-taken c =
-    let l = c .before .before .before .before .before .before .before .before .before in
-    record { fits = omega (arith, l .loop-test .taken, l .before .before .before .before .before .before .before .fits .budget .fits) }
+    let l = c .before .before .before .before .before .before .before .before .before .before .before .before in
+    record { fits = omega (arith, c .before .before .before .before .before .before .before .before .before .before .before .loop-test .taken, l .before .before .before .before .before .before .fits .budget .fits) }
 
 cast-result-2 : tie.Need-cast-result-2 Inv-loop μ-loop
 cast-result-2 c =
-    let l = c .before .before .before .before .before .before .before .before .before .before in
-    record { fits = omega (arith, l .loop-test .taken, l .before .before .before .before .before .before .before .fits .budget .fits) }
+    let l = c .before .before .before .before .before .before .before .before .before .before .before .before .before in
+    record { fits = omega (arith, c .before .before .before .before .before .before .before .before .before .before .before .before .loop-test .taken, l .before .before .before .before .before .before .fits .budget .fits) }
 
 same-length-2 : tie.Need-same-length-2 Inv-loop μ-loop
-same-length-2 c =
-    let w = c .before .before .before .before .before in
-    w .write .kept .0 ∙ w .before .before .before .before .before .before .loop .inv .size
+same-length-2 c = c .before .before .before .before .before .before .before .write .kept .0 ∙ c .before .before .before .before .before .before .before .before .before .before .before .before .before .loop .inv .size
 
 returns-2 : tie.Need-returns-2 Inv-loop μ-loop
 returns-2 c =
-    let st = c .before .before in
-    let w = st .before .before .before in
-    let one = w .before .before .before in
-    let l = one .before .before in
-    let at = l .before in
-    visited-stopped (at .loop .inv) (at .before .before .cell-count .ensures) (at .before .before .before .before .before .before .pre .2) (one .if1 .left) (l .loop-test .taken)
-    (st .step .ensures) (w .write .ensures) (c .if2 .taken)
+    let l = c .before .before .before .before .before .before .before .before .before .before .before .before .before in
+    visited-stopped (l .loop .inv) (l .before .before .cell-count .ensures) (l .before .before .before .before .before .before .pre .2) (c .before .before .before .before .before .before .before .before .before .before .if1 .left) (c .before .before .before .before .before .before .before .before .before .before .before .before .loop-test .taken)
+    (stepped (c .before .before)) (c .before .before .before .before .before .before .before .write .ensures) (c .if2 .taken)
 
 loop-less : tie.Need-loop-less Inv-loop μ-loop
-loop-less c = omega (arith, c .before .before .before .before .before .before .before .before .before .before .loop-test .taken)
+loop-less c = omega (arith, c .before .before .before .before .before .before .before .before .before .before .before .before .loop-test .taken)
 
 loop-again : tie.Need-loop-again Inv-loop μ-loop
 loop-again c =
-    let st = c .before .before in
-    let w = st .before .before .before in
-    let one = w .before .before .before in
-    let l = one .before .before in
-    let at = l .before in
-    passes-on (at .loop .inv) (at .before .before .cell-count .ensures) (at .before .before .before .before .before .before .pre .2) (one .if1 .left) (l .loop-test .taken)
-    (st .step .ensures) (w .write .ensures) (c .if2 .left)
+    let l = c .before .before .before .before .before .before .before .before .before .before .before .before .before in
+    passes-on (l .loop .inv) (l .before .before .cell-count .ensures) (l .before .before .before .before .before .before .pre .2) (c .before .before .before .before .before .before .before .before .before .before .if1 .left) (c .before .before .before .before .before .before .before .before .before .before .before .before .loop-test .taken)
+    (stepped (c .before .before)) (c .before .before .before .before .before .before .before .write .ensures) (c .if2 .left)
 
 cast-result-3 : tie.Need-cast-result-3 Inv-loop μ-loop
 cast-result-3 c = search needs
@@ -116,7 +124,9 @@ visit-spec =
     mul-at
     cast-write
     write-requires
-    step-requires
+    later-requires
+    cell-at-requires
+    turn-requires
     add-taken
     cast-result-2
     same-length-2

@@ -1,0 +1,84 @@
+-- `change` meets its contract: by the effect.
+-- Assumes nothing.
+use mathlib.Core.Path.{_≡_}
+use mir.Val.{toZ, ofZ}
+use mir.Syntax.{w32}
+use Rattle.machine.specs.Code.{changed}
+use Rattle.machine.proofs.Turns.{unchanged}
+use borrow.Author.Needs.{needs}
+use Rattle.machine.proofs.turn.change.Statement.{statement}
+use Rattle.machine.proofs.turn.change.Tie as tie
+
+enum-known-does : tie.Need-enum-known-does
+enum-known-does c = search needs
+
+flag-requires : tie.Need-flag-requires
+flag-requires c κs = search needs
+
+enum-known-does-2 : tie.Need-enum-known-does-2
+enum-known-does-2 c = search needs
+
+store-requires : tie.Need-store-requires
+store-requires c κs = search needs
+
+enum-known-does-3 : tie.Need-enum-known-does-3
+enum-known-does-3 c = search needs
+
+set-moving-requires : tie.Need-set-moving-requires
+set-moving-requires c κs = search needs
+
+enum-known-does-4 : tie.Need-enum-known-does-4
+enum-known-does-4 c = search needs
+
+slew-requires : tie.Need-slew-requires
+slew-requires c κs = search needs
+
+set-moving-requires-2 : tie.Need-set-moving-requires-2
+set-moving-requires-2 c κs = search needs
+
+returns : tie.Need-returns
+unfolding changed
+returns c = rw (c .before .before .before .does .given .1) (c .flag .ensures)
+
+returns-2 : tie.Need-returns-2
+unfolding changed
+returns-2 c =
+    let d = c .before .before .before .does2 .given in
+    let z′ : toZ w32 (ofZ w32 (d .0 .1 .0)) ≡ d .0 .1 .0 = search needs in
+    rw (d .1) (simp z′ at (c .store .ensures))
+
+returns-3 : tie.Need-returns-3
+unfolding changed
+returns-3 c =
+    let d = c .before .before .before .does3 .given in
+    let z′ : toZ w32 (ofZ w32 (d .0 .0)) ≡ d .0 .0 = search needs in
+    rw (d .1) (simp z′ at (c .set-moving .ensures))
+
+returns-4 : tie.Need-returns-4
+unfolding changed
+returns-4 c =
+    let d = c .before .before .before .before .does4 .given in
+    let z′ : toZ w32 (ofZ w32 (d .0 .0)) ≡ d .0 .0 = search needs in
+    rw (d .1) (simp (c .before .slew .ensures, z′) at (c .set-moving2 .ensures))
+
+returns-5 : tie.Need-returns-5
+returns-5 c = unchanged (c .before .args .does) _ (c .match .keys5)
+
+pub change-spec : {M : Type 1} → statement M
+change-spec =
+    tie.close
+    (tie.spec
+    enum-known-does
+    flag-requires
+    enum-known-does-2
+    store-requires
+    enum-known-does-3
+    set-moving-requires
+    enum-known-does-4
+    slew-requires
+    set-moving-requires-2
+    returns
+    returns-2
+    returns-3
+    returns-4
+    returns-5)
