@@ -26,6 +26,7 @@ use Rattle.machine.specs.Turn.{withVariables, startMachine, stored, movi
 use Rattle.machine.specs.Events.{input, arrivedBy, happens, goodEvent}
 use Rattle.machine.specs.Code.{Bit, Inputs, moving, Arrived, Happened}
 use Rattle.machine.proofs.Turns.{failed-variables}
+use Rattle.machine.proofs.Quiet.{of-three}
 
 -- What a variable is after a store: the value stored, or what it was.
 module _ (P : ℤ → Type 0) (vars : List ℤ) (v k : ℕ) (z : ℤ) where
@@ -203,14 +204,9 @@ arrived-size Still m = refl
 arrived-size (To z) m = simp length-set
 arrived-size (Slewing z) m = refl
 
-chosen-size : (a b : Bool) (x y z : Machine) (n : ℕ) → length (x .variables) ≡ n → length (y .variables) ≡ n → length (z .variables) ≡ n → length (cond a x (cond b y z) .variables) ≡ n
-chosen-size true b x y z n h k l = h
-chosen-size false true x y z n h k l = k
-chosen-size false false x y z n h k l = l
-
 happens-size : (e : Event) (m : Machine) → length (happens e m .variables) ≡ length (m .variables)
 unfolding happens input
-happens-size e m = chosen-size (eqb (e .kind) 1) (eqb (e .kind) 2) _ _ _ _ (simp length-set) (arrived-size (m .motion) m) (simp length-set)
+happens-size e m = of-three (λ x. length (x .variables) ≡ length (m .variables)) (eqb (e .kind) 1) (eqb (e .kind) 2) (simp length-set) (arrived-size (m .motion) m) (simp length-set)
 
 pub size-happened : (m : Machine) {e : Event} {vars vars′ : List ℤ} {motion motion′ : Motion} → Happened e vars motion vars′ motion′ → length vars′ ≡ length vars
 size-happened m {e} {vars} {motion = motion} p = ap (λ (x : Machine). length (x .variables)) (p .each m) ∙ happens-size e (moving vars motion m)

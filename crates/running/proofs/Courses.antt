@@ -3,89 +3,26 @@
 use mathlib.Core.Path.{_≡_, refl, sym, ap, _∙_}
 use mathlib.Core.Bool.{true, false}
 use mathlib.Core.List.{List, [], _++_, append-assoc, append-nil}
-use Prim.Native.Nat.{ℕ, zero, suc, _+_, _*_, _-_, _≤_, _<_}
+use Prim.Native.Nat.{ℕ, suc, _+_, _*_, _-_, _≤_, _<_}
 use native.Mathlib.Nat.{sub-zero}
 use native.Mathlib.Numerals.{add-one}
 use native.Mathlib.Omega.{arith}
-use borrow.Author.Tests.{le-leb, lt-leb}
 use lib.ListN.{length, take, drop, take-append-drop, length-append}
 use lib.Seq.{sets, sets-eq, length-sets, length-take-le, take-at, drop-at, drop-drop}
-use Rattle.program.specs.declared.Cell.{Cell}
-use Rattle.program.specs.Cells.{same, statementOf}
-use Rattle.image.specs.Layout.{cellCount, cellAt, startValues}
-use Rattle.effects.specs.Effects.{effect}
+use Rattle.image.specs.Layout.{cellCount, startValues}
 use Rattle.machine.specs.declared.Machine.{Machine}
 use Rattle.machine.specs.declared.Turned.{Turned}
-use Rattle.machine.specs.declared.Event.{Event}
-use Rattle.machine.specs.Turn.{startMachine, turn}
-<<<<<<< HEAD
+use Rattle.machine.specs.Turn.{startMachine}
 use Rattle.machine.specs.Events.{eventCount, recordBytes}
-use Rattle.machine.specs.Run.{Course, ended, after, runFrom, over}
+use Rattle.machine.specs.Run.{PlainTrace, Course, plain, before, ends, courseOf, over}
 use Rattle.machine.specs.Code.{Inputs}
-use Rattle.machine.proofs.Inputs.{inputs-start, inputs-turn}
+use Rattle.machine.proofs.Inputs.{inputs-start}
 use Rattle.machine.proofs.Written.{record-most}
-use Rattle.running.specs.declared.Stepped.{Stepped}
-use Rattle.running.specs.Courses.{cellActs, imageCourse}
-use Rattle.running.specs.Code.{eventsFrom, ReachedBy, SteppedBy, EndedAs}
+use Rattle.machine.proofs.Traces.{ended, after, course-ends, course-before}
+use Rattle.running.specs.Courses.{imageCourse}
+use Rattle.running.specs.Code.{SteppedBy, courseFrom, EndedAs}
 use Rattle.running.proofs.Scripts.{events-all}
-=======
-use Rattle.machine.specs.Events.{eventCount, badEvents, recordBytes}
-use Rattle.machine.specs.Run.{Course, ended, after, reach, runFrom}
-use Rattle.machine.specs.Code.{Inputs, acts, turnBy}
-use Rattle.machine.proofs.Inputs.{inputs-start, inputs-turn}
-use Rattle.machine.proofs.Written.{record-most}
-use Rattle.running.specs.Courses.{cellActs, imageCourse, over}
-use Rattle.running.specs.Code.{eventsFrom, DueBefore, SteppedBy, EndedAs}
-use Rattle.running.proofs.Scripts.{events-all, acts-reach, acts-next, inputs-acts}
->>>>>>> a4a78b8 (fast patch)
-
--- One turn: what the events reach, then what the statement at the next cell gives.
-pub stepped-by : {s script : List ℕ} {cells t k n : ℕ} {m : Machine} {c : Cell} {d : Turned} → badEvents script ≡ false → Inputs (m .variables) → DueBefore script t k n → c ≡ cellAt s (m .next)
-    → d ≡ turnBy cells c (acts script k (n - k) m) → SteppedBy s cells script t k m d n
-unfolding cellActs turnBy
-stepped-by {s} {script} {cells} {t} {k} {n} {m} {c} g i due ec ed =
-    let a = acts-reach script t k n m due in
-    let e : c ≡ cellAt s (acts script k (n - k) m .next) = ec ∙ ap (cellAt s) (sym (acts-next script t k n m due)) in
-    record {
-      turned = rw (a, ← e) ed;
-      left = rw a;
-      within = due .within;
-      inputs = rw ed (inputs-turn (acts script k (n - k) m) (inputs-acts script g t k n m due i) same same cells (statementOf c));
-    }
-
--- The run from turn t on, with the events from number k on.
-module _ (s script : List ℕ) (budget : ℕ) where
-  abbrev rest : ℕ → ℕ → Machine → Course
-  rest t k m = runFrom (cellActs s) (cellCount s) (budget - t) t (eventsFrom script k) m
-
-  past-by : (left t : ℕ) (es : List Event) (m : Machine) → cellCount s ≤ m .next → runFrom (cellActs s) (cellCount s) left t es m ≡ ended 1 t m
-  unfolding runFrom
-  past-by zero t es m h = rw (le-leb (cellCount s) (m .next) h)
-  past-by (suc left) t es m h = rw (le-leb (cellCount s) (m .next) h)
-
-  run-past : (t k : ℕ) (m : Machine) → cellCount s ≤ m .next → rest t k m ≡ ended 1 t m
-  run-past t k m h = past-by (budget - t) t (eventsFrom script k) m h
-
-  run-spent : (t k : ℕ) (m : Machine) → m .next < cellCount s → budget ≤ t → rest t k m ≡ ended 3 t m
-  unfolding runFrom
-  run-spent t k m h l = let e : budget - t ≡ 0 = omega arith in rw (e, lt-leb (cellCount s) (m .next) h)
-
-  -- One turn is taken.
-  module _ (t k : ℕ) (m : Machine) (h : m .next < cellCount s) (l : t < budget) {d : Turned} {n : ℕ} (er : SteppedBy s (cellCount s) script t k m d n) where
-    abbrev bytes : List ℕ
-    bytes = recordBytes t (d .wrote)
-
-    run-stopped : d .stops ≡ true → rest t k m ≡ after bytes (ended 2 (t + 1) (d .machine))
-    unfolding runFrom
-    run-stopped e =
-        let e′ : budget - t ≡ suc (budget - (t + 1)) = omega arith in
-        rw (e′, lt-leb (cellCount s) (m .next) h, ← er .turned, e, add-one t)
-
-    run-goes : d .stops ≡ false → rest t k m ≡ after bytes (rest (t + 1) n (d .machine))
-    unfolding runFrom
-    run-goes e =
-        let e′ : budget - t ≡ suc (budget - (t + 1)) = omega arith in
-        rw (e′, lt-leb (cellCount s) (m .next) h, ← er .turned, e, add-one t, er .left)
+use Rattle.running.proofs.Turns.{rest, rest-past, rest-spent, rest-stopped, rest-goes, taken}
 
 -- Bytes written from a place on: what stands before their end, and behind it.
 module _ (at : ℕ) (b bs : List ℕ) (fits : at + length bs ≤ length b) where
@@ -139,57 +76,87 @@ written-more {b₀ = b₀} {b = b} {at = at} {more = more} bs w f e =
           ∙ rw append-assoc (ap (λ (c : Course). after (take at b) c) (sym e) ∙ w .whole);
     }
 
--- What holds before each turn t, with the events from number k on to come and the records up to `at` in the buffer.
-pub record Underway (s script : List ℕ) (budget : ℕ) (b₀ b : List ℕ) (m : Machine) (t k at : ℕ) : Type 0 where
-  pub turns : t ≤ budget
+-- How the rest of a run goes from turn t on.
+module _ (s script : List ℕ) (last : ℕ) where
+  abbrev goes : ℕ → ℕ → Machine → Course
+  goes t k m = courseOf plain t m (rest s script last t k m)
+
+  goes-past : (t k : ℕ) (m : Machine) → cellCount s ≤ m .next → goes t k m ≡ ended 1 t m
+  goes-past t k m h = rw (rest-past s script last t k m h) (course-ends plain 1 t m)
+
+  goes-spent : (t k : ℕ) (m : Machine) → m .next < cellCount s → last ≤ t → goes t k m ≡ ended 3 t m
+  goes-spent t k m h l = rw (rest-spent s script last t k m h l) (course-ends plain 3 t m)
+
+  module _ (t k : ℕ) (m : Machine) (h : m .next < cellCount s) (l : t < last) {d : Turned} {n : ℕ} (er : SteppedBy s (cellCount s) script t k m d n) where
+    goes-stopped : d .stops ≡ true → goes t k m ≡ after (recordBytes t (d .wrote)) (ended 2 (t + 1) (d .machine))
+    goes-stopped e =
+        rw (rest-stopped s script last t k m h l er e, add-one t)
+        (course-before plain t m (taken s script last t k m h l er) (ends 2) ∙ rw (course-ends plain 2 (suc t) (d .machine)))
+
+    goes-more : d .stops ≡ false → goes t k m ≡ after (recordBytes t (d .wrote)) (goes (t + 1) n (d .machine))
+    goes-more e =
+        rw (rest-goes s script last t k m h l er e)
+        (course-before plain t m (taken s script last t k m h l er) (rest s script last (t + 1) n (d .machine)) ∙ rw (add-one t))
+
+-- What holds before each turn t of a run from turn t₀ on that goes this course, with the events from number k on to come and the records up to `at` in the buffer.
+pub record Underway (s script : List ℕ) (course : Course) (t₀ last : ℕ) (b₀ b : List ℕ) (m : Machine) (t k at : ℕ) : Type 0 where
+  pub begun : t₀ ≤ t
   pub within : k ≤ eventCount script
   pub inputs : Inputs (m .variables)
-  pub most : at ≤ 12 * t
+  pub most : at ≤ 12 * (t - t₀)
   pub size : length b ≡ length b₀
-  pub written : Written (imageCourse s script budget) b₀ b at (rest s script budget t k m)
+  pub written : Written course b₀ b at (goes s script last t k m)
 
-module _ {s script : List ℕ} {budget : ℕ} {b₀ : List ℕ} where
+module _ {s script : List ℕ} {t₀ last : ℕ} {b₀ : List ℕ} where
   -- Before the first turn.
-  pub underway : {m : Machine} → m ≡ startMachine (startValues s) → Underway s script budget b₀ b₀ m 0 0 0
-  unfolding imageCourse
-  underway e =
+  pub underway : (m : Machine) (k : ℕ) → k ≤ eventCount script → Inputs (m .variables) → Underway s script (courseFrom s script m t₀ k last) t₀ last b₀ b₀ m t₀ k 0
+  unfolding courseFrom
+  underway m k w i =
       record {
-        turns = omega arith;
-        within = omega arith;
-        inputs = rw e (inputs-start (startValues s));
+        begun = omega arith;
+        within = w;
+        inputs = i;
         most = omega arith;
         size = refl;
-        written = record { inside = omega arith; behind = refl; whole = rw (e, sub-zero, events-all script) };
+        written = record { inside = omega arith; behind = refl; whole = refl };
       }
 
-  module _ {b : List ℕ} {m : Machine} {t k at : ℕ} (u : Underway s script budget b₀ b m t k at) {cells : ℕ} (en : cells ≡ cellCount s) where
+  module _ {course : Course} {b : List ℕ} {m : Machine} {t k at : ℕ} (u : Underway s script course t₀ last b₀ b m t k at) {cells : ℕ} (en : cells ≡ cellCount s) where
     -- Turn 6: no cell is left, or else no turn.
-    pub past-last : cells ≤ m .next → Ends 1 t at m (imageCourse s script budget) b₀ b
-    past-last h = ended-as (rw (run-past s script budget t k m (omega arith)) at (u .written))
+    pub past-last : cells ≤ m .next → Ends 1 t at m course b₀ b
+    past-last h = ended-as (rw (goes-past s script last t k m (omega arith)) at (u .written))
 
-    pub budget-used : m .next < cells → budget ≤ t → Ends 3 t at m (imageCourse s script budget) b₀ b
-    budget-used h l = ended-as (rw (run-spent s script budget t k m (omega arith) l) at (u .written))
+    pub budget-used : m .next < cells → last ≤ t → Ends 3 t at m course b₀ b
+    budget-used h l = ended-as (rw (goes-spent s script last t k m (omega arith) l) at (u .written))
 
     -- One turn is taken, and its record is written.
-    module _ (room : 12 * budget ≤ length b₀) (h : m .next < cells) (l : t < budget) {d : Turned} {n : ℕ} (er : SteppedBy s cells script t k m d n)
+    module _ (room : 12 * (last - t₀) ≤ length b₀) (h : m .next < cells) (l : t < last) {d : Turned} {n : ℕ} (er : SteppedBy s cells script t k m d n)
         {at′ : ℕ} {b′ : List ℕ} (ea : at′ ≡ at + length (recordBytes t (d .wrote))) (eb : b′ ≡ sets b at (recordBytes t (d .wrote))) where
       fits : at + length (recordBytes t (d .wrote)) ≤ length b
-      fits = omega (arith, record-most t (d .wrote), u .most, u .size)
+      fits = omega (arith, record-most t (d .wrote), u .begun, u .most, u .size)
 
-      more : (left : Course) → rest s script budget t k m ≡ after (recordBytes t (d .wrote)) left → Written (imageCourse s script budget) b₀ b′ at′ left
+      more : (left : Course) → goes s script last t k m ≡ after (recordBytes t (d .wrote)) left → Written course b₀ b′ at′ left
       more left e = rw (ea, eb) (written-more (recordBytes t (d .wrote)) (u .written) fits e)
 
       -- Turn 25: the run stops after the turn.
-      pub stopped : d .stops ≡ true → Ends 2 (t + 1) at′ (d .machine) (imageCourse s script budget) b₀ b′
-      stopped e = ended-as (more (ended 2 (t + 1) (d .machine)) (run-stopped s script budget t k m (omega arith) l (rw en at er) e))
+      pub stopped : d .stops ≡ true → Ends 2 (t + 1) at′ (d .machine) course b₀ b′
+      stopped e = ended-as (more (ended 2 (t + 1) (d .machine)) (goes-stopped s script last t k m (omega arith) l (rw en at er) e))
 
-      pub goes-on : d .stops ≡ false → Underway s script budget b₀ b′ (d .machine) (t + 1) n at′
+      pub goes-on : d .stops ≡ false → Underway s script course t₀ last b₀ b′ (d .machine) (t + 1) n at′
       goes-on e =
           record {
-            turns = omega arith;
+            begun = omega (arith, u .begun);
             within = er .within;
             inputs = er .inputs;
-            most = omega (arith, record-most t (d .wrote), u .most);
+            most = omega (arith, record-most t (d .wrote), u .begun, u .most);
             size = rw eb (length-sets b at (recordBytes t (d .wrote)) ∙ u .size);
-            written = more (rest s script budget (t + 1) n (d .machine)) (run-goes s script budget t k m (omega arith) l (rw en at er) e);
+            written = more (goes s script last (t + 1) n (d .machine)) (goes-more s script last t k m (omega arith) l (rw en at er) e);
           }
+
+-- From the start: the whole run.
+pub from-start : (s script : List ℕ) (budget : ℕ) {m : Machine} → m ≡ startMachine (startValues s) → courseFrom s script m 0 0 budget ≡ imageCourse s script budget
+unfolding courseFrom imageCourse
+from-start s script budget e = rw (e, sub-zero, events-all script)
+
+pub inputs-first : (s : List ℕ) {m : Machine} → m ≡ startMachine (startValues s) → Inputs (m .variables)
+inputs-first s e = rw e (inputs-start (startValues s))

@@ -1,3 +1,4 @@
 pub mod Scripts
+pub mod Turns
 pub mod Courses
 pub mod Visits

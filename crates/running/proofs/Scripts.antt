@@ -15,15 +15,15 @@ use lib.Seq.{take-all}
 use Rattle.numbers.specs.Tests.{listed}
 use Rattle.image.specs.Layout.{variableCount, startValue, startValues}
 use Rattle.machine.specs.declared.Machine.{Machine}
-use Rattle.machine.specs.declared.Motion.{Motion}
-use Rattle.machine.specs.declared.Motion.the-variants.{Still, To, Slewing}
 use Rattle.machine.specs.declared.Event.{Event}
-use Rattle.machine.specs.Turn.{withVariables, startMachine, inMotion}
-use Rattle.machine.specs.Events.{eventAt, eventCount, events, happens, arrivedBy, badScript, badEvents}
-use Rattle.machine.specs.Run.{Reached, reach}
+use Rattle.machine.specs.Turn.{withVariables, startMachine}
+use Rattle.machine.specs.Events.{eventAt, eventCount, events, happens, badScript, badEvents}
+use Rattle.machine.specs.Run.{Reached, plain, reachBy, reach}
 use Rattle.machine.specs.Code.{Inputs, acts}
 use Rattle.machine.proofs.Inputs.{inputs-happens}
 use Rattle.machine.proofs.Scripts.{good-events}
+use Rattle.machine.proofs.Quiet.{happens-next}
+use Rattle.machine.proofs.Traces.{next-reached}
 use Rattle.machine.proofs.Written.{start-more}
 use Rattle.running.specs.Code.{eventsFrom, DueBefore}
 
@@ -85,17 +85,17 @@ module _ (s : List ℕ) where
     -- An event of turn t acts.
     pub reach-more : {e : Event} {m′ : Machine} → k < eventCount s → e ≡ eventAt s k → e .turn ≡ t → m′ ≡ happens e m
         → reach t (eventsFrom s (k + 1)) m′ ≡ reach t (eventsFrom s k) m
-    unfolding reach
+    unfolding reachBy
     reach-more {e} h ee et em = rw (events-more k h, ← ee, em, eq-eqb (e .turn) t et)
 
     -- An event of a later turn waits.
     pub reach-waits : {e : Event} → k < eventCount s → e ≡ eventAt s k → (e .turn ≡ t → ⊥) → reach t (eventsFrom s k) m ≡ record { machine = m; left = eventsFrom s k }
-    unfolding reach
+    unfolding reachBy
     reach-waits {e} h ee et = rw (events-more k h, ← ee, ne-eqb (e .turn) t et)
 
     -- No event is left.
     pub reach-none : eventCount s ≤ k → reach t (eventsFrom s k) m ≡ record { machine = m; left = eventsFrom s k }
-    unfolding reach
+    unfolding reachBy
     reach-none h = rw (events-none k h)
 
   -- An event of another turn, or no event, comes next.
@@ -128,30 +128,6 @@ module _ (s : List ℕ) where
     pub inputs-acts : (t first last : ℕ) (m : Machine) → DueBefore s t first last → Inputs (m .variables) → Inputs (acts s first (last - first) m .variables)
     inputs-acts t first last m d h = let o = d .order in let i = d .within in inputs-by (last - first) first m (omega arith) h
 
--- An event leaves the next cell as it is.
-arrived-next : (k : Motion) (m : Machine) → arrivedBy k m .next ≡ m .next
-unfolding arrivedBy inMotion
-arrived-next Still m = refl
-arrived-next (To z) m = refl
-arrived-next (Slewing z) m = refl
-
-chosen-next : (a b : Bool) (x y z : Machine) (n : ℕ) → x .next ≡ n → y .next ≡ n → z .next ≡ n → cond a x (cond b y z) .next ≡ n
-chosen-next true b x y z n h k l = h
-chosen-next false true x y z n h k l = k
-chosen-next false false x y z n h k l = l
-
-happens-next : (e : Event) (m : Machine) → happens e m .next ≡ m .next
-unfolding happens
-happens-next e m = chosen-next (eqb (e .kind) 1) (eqb (e .kind) 2) _ _ _ (m .next) refl (arrived-next (m .motion) m) refl
-
-reach-next : (t : ℕ) (es : List Event) (m : Machine) → reach t es m .machine .next ≡ m .next
-unfolding reach
-reach-next t [] m = refl
-reach-next t (e ∷ es) m = by-turn (eqb (e .turn) t) (reach-next t es (happens e m) ∙ happens-next e m)
-  where
-    by-turn : (b : Bool) → reach t es (happens e m) .machine .next ≡ m .next → cond b (reach t es (happens e m)) (record { machine = m; left = e ∷ es }) .machine .next ≡ m .next
-    by-turn true h = h
-    by-turn false h = refl
-
+-- The events of a turn leave the next cell as it is.
 pub acts-next : (s : List ℕ) (t first last : ℕ) (m : Machine) → DueBefore s t first last → acts s first (last - first) m .next ≡ m .next
-acts-next s t first last m d = sym (ap (λ (r : Reached). r .machine .next) (acts-reach s t first last m d)) ∙ reach-next t (eventsFrom s first) m
+acts-next s t first last m d = sym (ap (λ (r : Reached). r .machine .next) (acts-reach s t first last m d)) ∙ next-reached plain happens-next t (eventsFrom s first) m

@@ -3,65 +3,33 @@
 use mathlib.Core.Path.{_≡_, refl, sym, ap, _∙_}
 use mathlib.Core.Bool.{true, false}
 use mathlib.Core.List.{List, [], _∷_, _++_, append-assoc, append-nil, flatMap}
-use Prim.Native.Nat.{ℕ, zero, suc, _+_, _*_, _-_, _≤_, _<_}
+use Prim.Native.Nat.{ℕ, _+_, _*_, _-_, _≤_, _<_}
 use native.Mathlib.Nat.{sub-zero}
-use native.Mathlib.Numerals.{add-one}
 use native.Mathlib.Omega.{arith}
-use borrow.Author.Tests.{le-leb, lt-leb}
 use lib.ListN.{length, take, drop, take-append-drop}
 use lib.Seq.{sets, length-sets, length-take-le, drop-drop}
 use Rattle.numbers.specs.Bytes.{bytes}
 use Rattle.numbers.proofs.Laws.{length-bytes}
 use Rattle.image.specs.Layout.{cellCount, startValues}
 use Rattle.machine.specs.declared.Machine.{Machine}
-use Rattle.machine.specs.declared.Event.{Event}
-<<<<<<< HEAD
+use Rattle.machine.specs.declared.Turned.{Turned}
 use Rattle.machine.specs.Turn.{startMachine}
 use Rattle.machine.specs.Events.{eventCount}
-=======
-use Rattle.machine.specs.declared.Turned.{Turned}
-use Rattle.machine.specs.Turn.{startMachine, turn}
-use Rattle.machine.specs.Events.{eventCount, recordBytes}
-use Rattle.machine.specs.Run.{Course, ended, after, reach, runFrom}
->>>>>>> a4a78b8 (fast patch)
+use Rattle.machine.specs.Run.{plain, placesOf}
 use Rattle.machine.specs.Code.{Inputs}
 use Rattle.machine.proofs.Inputs.{inputs-start}
+use Rattle.machine.proofs.Traces.{few-turns}
+use Rattle.running.specs.Visits.{imageVisits, visitBytes, visitsOver}
 use Rattle.running.specs.Courses.{cellActs}
-use Rattle.running.specs.Visits.{visitsFrom, imageVisits, visitBytes, visitsOver}
 use Rattle.running.specs.Code.{eventsFrom, SteppedBy, VisitedAs}
 use Rattle.running.proofs.Scripts.{events-all}
+use Rattle.running.proofs.Turns.{rest, rest-past, rest-stopped, rest-goes}
 use Rattle.running.proofs.Courses.{take-written, drop-written}
 
--- The places from turn t on, with the events from number k on.
-module _ (s script : List ℕ) (budget : ℕ) where
-  abbrev rest : ℕ → ℕ → Machine → List ℕ
-  rest t k m = visitsFrom (cellActs s) (cellCount s) (budget - t) t (eventsFrom script k) m
-
-  past-by : (left t : ℕ) (es : List Event) (m : Machine) → cellCount s ≤ m .next → visitsFrom (cellActs s) (cellCount s) left t es m ≡ []
-  unfolding visitsFrom
-  past-by zero t es m h = refl
-  past-by (suc left) t es m h = rw (le-leb (cellCount s) (m .next) h)
-
-  none-past : (t k : ℕ) (m : Machine) → cellCount s ≤ m .next → rest t k m ≡ []
-  none-past t k m h = past-by (budget - t) t (eventsFrom script k) m h
-
-  none-spent : (t k : ℕ) (m : Machine) → budget ≤ t → rest t k m ≡ []
-  unfolding visitsFrom
-  none-spent t k m l = let e : budget - t ≡ 0 = omega arith in rw e
-
-  -- One turn is taken.
-  module _ (t k : ℕ) (m : Machine) (h : m .next < cellCount s) (l : t < budget) {d : Turned} {n : ℕ} (er : SteppedBy s (cellCount s) script t k m d n) where
-    visit-stopped : d .stops ≡ true → rest t k m ≡ m .next ∷ []
-    unfolding visitsFrom
-    visit-stopped e =
-        let e′ : budget - t ≡ suc (budget - (t + 1)) = omega arith in
-        rw (e′, lt-leb (cellCount s) (m .next) h, ← er .turned, e)
-
-    visit-goes : d .stops ≡ false → rest t k m ≡ m .next ∷ rest (t + 1) n (d .machine)
-    unfolding visitsFrom
-    visit-goes e =
-        let e′ : budget - t ≡ suc (budget - (t + 1)) = omega arith in
-        rw (e′, lt-leb (cellCount s) (m .next) h, ← er .turned, e, add-one t, er .left)
+-- A list that has no more than nothing.
+no-turn : {A : Type 0} (xs : List A) → length xs ≤ 0 → xs ≡ []
+no-turn [] h = refl
+no-turn (x ∷ xs) h = absurd (omega arith)
 
 -- The buffer has the places of t turns, and behind them what it had at the start, which is `b₀`; with the places still to come they give all.
 pub record Marked (all b₀ b : List ℕ) (t : ℕ) (left : List ℕ) : Type 0 where
@@ -100,7 +68,7 @@ pub record Passing (s script : List ℕ) (budget : ℕ) (b₀ b : List ℕ) (m :
   pub within : k ≤ eventCount script
   pub inputs : Inputs (m .variables)
   pub size : length b ≡ length b₀
-  pub marked : Marked (imageVisits s script budget) b₀ b t (rest s script budget t k m)
+  pub marked : Marked (imageVisits s script budget) b₀ b t (placesOf plain (rest s script budget t k m))
 
 module _ {s script : List ℕ} {budget : ℕ} {b₀ : List ℕ} where
   -- Before the first turn.
@@ -124,27 +92,31 @@ module _ {s script : List ℕ} {budget : ℕ} {b₀ : List ℕ} where
   module _ {b : List ℕ} {m : Machine} {t k : ℕ} (u : Passing s script budget b₀ b m t k) {cells : ℕ} (en : cells ≡ cellCount s) where
     -- Turn 6: no cell is left, or no turn.
     pub visited-past : cells ≤ m .next → VisitedAs (imageVisits s script budget) t b₀ b
-    visited-past h = all-marked (rw (none-past s script budget t k m (omega arith)) at (u .marked))
+    unfolding placesOf
+    visited-past h = all-marked (rw (rest-past s script budget t k m (omega arith)) at (u .marked))
 
     pub visited-spent : budget ≤ t → VisitedAs (imageVisits s script budget) t b₀ b
-    visited-spent l = all-marked (rw (none-spent s script budget t k m l) at (u .marked))
+    unfolding placesOf
+    visited-spent l = all-marked (rw (no-turn (rest s script budget t k m .steps) (omega (arith, few-turns plain (cellActs s) (cellCount s) (budget - t) t (eventsFrom script k) m))) at (u .marked))
 
     -- One turn is taken, and its place is written.
     module _ (room : 2 * budget ≤ length b₀) (h : m .next < cells) (l : t < budget) {d : Turned} {n : ℕ} (er : SteppedBy s cells script t k m d n)
         {b′ : List ℕ} (eb : b′ ≡ sets b (2 * t) (bytes 2 (m .next))) where
-      more : (left : List ℕ) → rest s script budget t k m ≡ m .next ∷ left → Marked (imageVisits s script budget) b₀ b′ (t + 1) left
+      more : (left : List ℕ) → placesOf plain (rest s script budget t k m) ≡ m .next ∷ left → Marked (imageVisits s script budget) b₀ b′ (t + 1) left
       more left e = rw eb (mark-more (rw e at (u .marked)) (omega (arith, u .size)))
 
       -- Turn 25: the run stops after the turn.
       pub visited-stopped : d .stops ≡ true → VisitedAs (imageVisits s script budget) (t + 1) b₀ b′
-      visited-stopped e = all-marked (more [] (visit-stopped s script budget t k m (omega arith) l (rw en at er) e))
+      unfolding placesOf
+      visited-stopped e = all-marked (more [] (ap (placesOf plain) (rest-stopped s script budget t k m (omega arith) l (rw en at er) e)))
 
       pub passes-on : d .stops ≡ false → Passing s script budget b₀ b′ (d .machine) (t + 1) n
+      unfolding placesOf
       passes-on e =
           record {
             turns = omega arith;
             within = er .within;
             inputs = er .inputs;
             size = rw eb (length-sets b (2 * t) (bytes 2 (m .next)) ∙ u .size);
-            marked = more (rest s script budget (t + 1) n (d .machine)) (visit-goes s script budget t k m (omega arith) l (rw en at er) e);
+            marked = more (placesOf plain (rest s script budget (t + 1) n (d .machine))) (ap (placesOf plain) (rest-goes s script budget t k m (omega arith) l (rw en at er) e));
           }

@@ -5,12 +5,13 @@ use mathlib.Core.List.{List}
 use Prim.Native.Nat.{ℕ, _-_, _≤_, _<_}
 use lib.ListN.{length}
 use Rattle.numbers.specs.Tests.{listed}
+use Rattle.image.specs.Layout.{cellCount}
 use Rattle.machine.specs.declared.Machine.{Machine}
 use Rattle.machine.specs.declared.Event.{Event}
 use Rattle.machine.specs.declared.Turned.{Turned}
 use Rattle.machine.specs.Events.{eventAt, eventCount}
 use Rattle.machine.specs.Turn.{turn}
-use Rattle.machine.specs.Run.{Course, reach, over}
+use Rattle.machine.specs.Run.{Course, reach, runFrom, over}
 use Rattle.machine.specs.Code.{Inputs}
 use Rattle.running.specs.declared.Ended.{Ended}
 use Rattle.running.specs.Courses.{cellActs}
@@ -33,6 +34,10 @@ pub record SteppedBy (s : List ℕ) (cells : ℕ) (script : List ℕ) (t first :
   pub left : eventsFrom script n ≡ reach t (eventsFrom script first) m .left
   pub within : n ≤ eventCount script
   pub inputs : Inputs (d .machine .variables)
+
+-- How the run of an image goes on from a machine before this turn, with the events from this number on, up to the last turn.
+unfoldable pub courseFrom : List ℕ → List ℕ → Machine → ℕ → ℕ → ℕ → Course
+courseFrom s script m t k last = runFrom (cellActs s) (cellCount s) (last - t) t (eventsFrom script k) m
 
 -- A run went like this course, and its records stand in the buffer over what that held.
 pub record EndedAs (course : Course) (r : Ended) (old new : List ℕ) : Type 0 where

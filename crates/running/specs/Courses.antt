@@ -9,12 +9,15 @@ use Rattle.effects.specs.Effects.{effect}
 use Rattle.machine.specs.declared.Machine.{Machine}
 use Rattle.machine.specs.Turn.{startMachine}
 use Rattle.machine.specs.Events.{events}
-use Rattle.machine.specs.Run.{Course, runFrom}
+use Rattle.machine.specs.Run.{PlainTrace, Course, traceFrom, runFrom}
 
 -- Turn 7: what the statement at the machine's next cell does.
 unfoldable pub cellActs : List ℕ → Machine → Effect
-cellActs s m = effect same same (m .variables) (m .kept) (m .hold) (statementOf (cellAt s (m .next)))
+cellActs s m = effect same same (m .variables) (m .places .kept) (m .hold) (statementOf (cellAt s (m .next)))
 
--- Turn 6, Variables 3: the run of an image from its start.
+-- Turn 6, Variables 3: the run of an image from its start, turn by turn, and how it went.
+unfoldable pub imageTrace : List ℕ → List ℕ → ℕ → PlainTrace
+imageTrace s script budget = traceFrom (cellActs s) (cellCount s) budget 0 (events script) (startMachine (startValues s))
+
 unfoldable pub imageCourse : List ℕ → List ℕ → ℕ → Course
 imageCourse s script budget = runFrom (cellActs s) (cellCount s) budget 0 (events script) (startMachine (startValues s))

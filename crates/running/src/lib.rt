@@ -1,14 +1,15 @@
 // The run of an image, turn by turn.
 ghost use mathlib.Core.Path.{_≡_};
 ghost use mathlib.Core.Bool.{false};
-ghost use Prim.Native.Nat.{_*_, _≤_};
+ghost use Prim.Native.Nat.{_*_, _-_, _≤_};
 ghost use lib.ListN.{length};
 ghost use Rattle.image.specs.Layout.{startValues};
 ghost use Rattle.machine.specs.Turn.{startMachine};
 ghost use Rattle.machine.specs.Events.{badScript, badEvents, eventCount};
+ghost use Rattle.machine.specs.Code.{Inputs};
 ghost use Rattle.running.specs.Courses.{imageCourse};
 ghost use Rattle.running.specs.Visits.{imageVisits};
-ghost use Rattle.running.specs.Code.{DueBefore, EndedAs, VisitedAs};
+ghost use Rattle.running.specs.Code.{DueBefore, courseFrom, EndedAs, VisitedAs};
 use machine::Machine;
 use machine::events::event_count;
 use machine::events::whole_event;
@@ -62,21 +63,30 @@ fn later(events: &[u8], turn: u32, first: usize) -> usize
     k
 }
 
-// The run of an image, against the events of a script and within a budget of turns. Its records go to the buffer.
-pub fn course(image: &[u8], events: &[u8], budget: u32, records: &mut [u8]) -> Ended
-    requires { ⌜ (badScript (now events) ≡ false) × (badEvents (now events) ≡ false) × (12 * budget ≤ length (now records)) ⌝ }
-    ensures { λ r. ⌜ EndedAs (imageCourse (now (image .entry)) (now (events .entry)) budget) r (now (records .entry)) (now (records .exit)) ⌝ }
+// The run of an image from a machine on that stands before this turn, with the events from this number on to come, up to the last turn.
+// Its records go to the buffer.
+pub fn go_on(
+    image: &[u8],
+    events: &[u8],
+    from: Machine,
+    turn: u32,
+    first: usize,
+    last: u32,
+    records: &mut [u8],
+) -> Ended
+    requires { ⌜ (badScript (now events) ≡ false) × (badEvents (now events) ≡ false) × (first ≤ eventCount (now events)) × Inputs (from .variables) × (12 * (last - turn) ≤ length (now records)) ⌝ }
+    ensures { λ r. ⌜ EndedAs (courseFrom (now (image .entry)) (now (events .entry)) from turn first last) r (now (records .entry)) (now (records .exit)) ⌝ }
 {
     let cells = image::cell_count(image);
-    let mut machine = started(image);
-    let mut turns: u32 = 0;
-    let mut event: usize = 0;
+    let mut machine = from;
+    let mut turns = turn;
+    let mut event = first;
     let mut bytes: usize = 0;
     let reason: u8 = loop {
         if cells <= machine.next {
             break Ended::PAST_THE_LAST;
         }
-        if budget <= turns {
+        if last <= turns {
             break Ended::BUDGET_USED;
         }
         let left = later(events, turns, event);
@@ -96,6 +106,14 @@ pub fn course(image: &[u8], events: &[u8], budget: u32, records: &mut [u8]) -> E
         bytes: bytes,
         machine: machine,
     }
+}
+
+// The run of an image from its start, against the events of a script and within a budget of turns. Its records go to the buffer.
+pub fn course(image: &[u8], events: &[u8], budget: u32, records: &mut [u8]) -> Ended
+    requires { ⌜ (badScript (now events) ≡ false) × (badEvents (now events) ≡ false) × (12 * budget ≤ length (now records)) ⌝ }
+    ensures { λ r. ⌜ EndedAs (imageCourse (now (image .entry)) (now (events .entry)) budget) r (now (records .entry)) (now (records .exit)) ⌝ }
+{
+    go_on(image, events, started(image), 0, 0, budget, records)
 }
 
 // How many bytes a place takes among the places of a run.

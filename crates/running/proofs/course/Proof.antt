@@ -1,118 +1,24 @@
--- `course` meets its contract. The invariant: what is left to run from here, behind the records in the buffer, gives the whole.
+-- `course` meets its contract: it goes on from the start.
 -- Assumes nothing.
-use mathlib.Core.Path.{_∙_}
-use Prim.Native.Nat.{_-_}
+use mathlib.Core.Path.{subst}
+use Prim.Native.Nat.{_≤_}
 use native.Mathlib.Omega.{arith}
+use lib.ListN.{length}
 use borrow.Author.Needs.{needs}
-use Rattle.running.specs.Code.{SteppedBy}
-use Rattle.running.proofs.Scripts.{few-events}
-use Rattle.running.proofs.Courses.{Underway, underway, stepped-by, past-last, budget-used, stopped, goes-on}
+use Rattle.machine.specs.Run.{Course}
+use Rattle.running.specs.Code.{EndedAs}
+use Rattle.running.proofs.Courses.{from-start, inputs-first}
 use Rattle.running.proofs.course.Statement.{statement}
 use Rattle.running.proofs.course.Tie as tie
 
-abbrev Inv-loop : tie.InvT-loop
-Inv-loop image events budget records₀ cells machine₀ turns₀ event₀ bytes₀ records machine turns event bytes =
-    Underway image events budget records₀ records machine turns event bytes
-
-abbrev μ-loop : tie.MeasureT-loop
-μ-loop image events budget records₀ cells machine₀ turns₀ event₀ bytes₀ records machine turns event bytes =
-    budget - turns
-
-cell-count-requires : tie.Need-cell-count-requires Inv-loop μ-loop
-cell-count-requires c κs = search needs
-
-started-requires : tie.Need-started-requires Inv-loop μ-loop
+started-requires : tie.Need-started-requires
 started-requires c κs = search needs
 
-loop-holds : tie.Need-loop-holds Inv-loop μ-loop
-loop-holds c = underway (c .started .ensures)
+go-on-requires : tie.Need-go-on-requires
+go-on-requires c κs = let p = c .before .before .before .before .before .pre in (p .0, p .1, omega arith, inputs-first _ (c .before .started .ensures), omega (arith, p .2))
 
-later-requires : tie.Need-later-requires Inv-loop μ-loop
-later-requires c κs =
-    let l = c .before .before .before in
-    (few-events _ (l .before .before .before .before .before .before .pre .0), l .loop .inv .within)
-
-cell-at-requires : tie.Need-cell-at-requires Inv-loop μ-loop
-cell-at-requires c κs = search needs
-
-turn-requires : tie.Need-turn-requires Inv-loop μ-loop
-turn-requires c κs =
-    let l = c .before .before .before .before .before in
-    let p = l .before .before .before .before .before .before .pre in
-    let due = c .before .later .ensures in
-    (omega (arith, c .before .before .before .if1 .left), l .loop .inv .inputs, p .1, (due .order, due .within), few-events _ (p .0))
-
--- the turn that was taken
-taken : (c : tie.After-turn Inv-loop μ-loop)
-    → let l = c .before .before .before .before .before .before in
-    SteppedBy (l .before .before .before .before .before .before .args .image .now) (l .before .before .cell-count .result) (l .before .before .before .before .before .before .args .events .now) (l .loop .turns) (l .loop .event) (l .loop .machine) (c .turn .result) (c .before .before .later .result)
-taken c =
-    let l = c .before .before .before .before .before .before in
-    stepped-by (l .before .before .before .before .before .before .pre .1) (l .loop .inv .inputs) (c .before .before .later .ensures) (c .before .cell-at .ensures) (c .turn .ensures)
-
-write-record-requires : tie.Need-write-record-requires Inv-loop μ-loop
-write-record-requires c κs =
-    let l = c .before .before .before .before .before .before .before .before in
-    omega (arith, l .before .before .before .before .before .before .pre .2, c .before .before .before .before .before .if2 .left, l .loop .inv .most, l .loop .inv .size)
-
-add-turns : tie.Need-add-turns Inv-loop μ-loop
-add-turns c =
-    let two = c .before .before .before .before .before .before .before .before in
-    record { fits = omega (arith, two .if2 .left, two .before .before .before .before .before .before .before .before .before .fits .budget .fits) }
-
-loop-less : tie.Need-loop-less Inv-loop μ-loop
-loop-less c = omega (arith, c .before .before .before .before .before .before .before .before .before .if2 .left)
-
-loop-again : tie.Need-loop-again Inv-loop μ-loop
-loop-again c =
-    let w = c .before .before .before in
-    let l = w .before .before .before .before .before .before .before .before .before in
-    goes-on (l .loop .inv) (l .before .before .cell-count .ensures) (l .before .before .before .before .before .before .pre .2) (w .before .before .before .before .before .before .before .if1 .left) (w .before .before .before .before .before .before .if2 .left)
-    (taken (w .before .before .before)) (w .write-record .ensures .0) (w .write-record .ensures .1) (c .if3 .left)
-
-same-length : tie.Need-same-length Inv-loop μ-loop
-same-length c = c .before .before .loop .inv .size
-
-returns : tie.Need-returns Inv-loop μ-loop
-returns c = past-last (c .before .before .loop .inv) (c .before .before .before .before .cell-count .ensures) (c .if1 .taken)
-
-same-length-2 : tie.Need-same-length-2 Inv-loop μ-loop
-same-length-2 c = c .before .before .before .loop .inv .size
-
-returns-2 : tie.Need-returns-2 Inv-loop μ-loop
-returns-2 c = budget-used (c .before .before .before .loop .inv) (c .before .before .before .before .before .cell-count .ensures) (c .before .if1 .left) (c .if2 .taken)
-
-same-length-3 : tie.Need-same-length-3 Inv-loop μ-loop
-same-length-3 c =
-    let w = c .before .before .before in
-    w .write-record .kept .0 ∙ w .before .before .before .before .before .before .before .before .before .loop .inv .size
-
-returns-3 : tie.Need-returns-3 Inv-loop μ-loop
-returns-3 c =
-    let w = c .before .before .before in
-    let l = w .before .before .before .before .before .before .before .before .before in
-    stopped (l .loop .inv) (l .before .before .cell-count .ensures) (l .before .before .before .before .before .before .pre .2) (w .before .before .before .before .before .before .before .if1 .left) (w .before .before .before .before .before .before .if2 .left)
-    (taken (w .before .before .before)) (w .write-record .ensures .0) (w .write-record .ensures .1) (c .if3 .taken)
+returns : tie.Need-returns
+returns c = rw (from-start _ _ _ (c .before .before .before .before .started .ensures)) at (c .before .before .go-on .ensures)
 
 pub course-spec : {M : Type 1} → statement M
-course-spec =
-    tie.close
-    (tie.spec
-    Inv-loop
-    μ-loop
-    cell-count-requires
-    started-requires
-    loop-holds
-    later-requires
-    cell-at-requires
-    turn-requires
-    write-record-requires
-    add-turns
-    loop-less
-    loop-again
-    same-length
-    returns
-    same-length-2
-    returns-2
-    same-length-3
-    returns-3)
+course-spec = tie.close (tie.spec started-requires go-on-requires returns)

@@ -6,7 +6,7 @@ use native.Mathlib.Omega.{arith}
 use borrow.Author.Needs.{needs}
 use Rattle.running.specs.Code.{SteppedBy}
 use Rattle.running.proofs.Scripts.{few-events}
-use Rattle.running.proofs.Courses.{stepped-by}
+use Rattle.running.proofs.Turns.{stepped-by}
 use Rattle.running.proofs.Visits.{Passing, passing, visited-past, visited-spent, visited-stopped, passes-on}
 use Rattle.running.proofs.visit.Statement.{statement}
 use Rattle.running.proofs.visit.Tie as tie
