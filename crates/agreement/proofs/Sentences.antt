@@ -6,36 +6,14 @@ use mathlib.Core.List.{List, [], _∷_}
 use mathlib.Core.Option.{Option, none, some}
 use Prim.Native.Nat.{ℕ, suc, _-_, _≤_, _<_}
 use native.Mathlib.Omega.{arith}
-use borrow.Author.Tests.{lt-leb, le-leb, ltb-false}
+use borrow.Author.Tests.{le-leb, ltb-false}
 use lib.Dec.{leb, ltb}
 use Rattle.numbers.specs.Tests.{eqList}
 use Rattle.program.specs.Names.{Name, twoCharacters, userName}
 use Rattle.text.specs.Tokens.{Token}
 use Rattle.text.specs.Forms.{Slot, Is, New, Target, Written, Left, Right, Start, Operating, Comparing, Parts, naming, writing, operating, comparing, Taken, took, put, word, sign, takes, operatorMeant, comparisonMeant, variableName}
-use Rattle.effects.specs.declared.Effect.{Effect}
-use Rattle.machine.specs.declared.Machine.{Machine}
-use Rattle.machine.specs.declared.Event.{Event}
-use Rattle.machine.specs.Turn.{turn}
-use Rattle.machine.specs.Events.{eventAt, eventCount, badEvent, badEvents, goodEvent, recordBytes}
-use Rattle.machine.specs.Run.{runFrom, reach, after, ended}
+use Rattle.machine.specs.Events.{eventAt, eventCount, badEvent, badEvents, goodEvent}
 use Rattle.machine.proofs.Scripts.{none-below}
-
--- Turn 7: before the end and with turns left, the events of the turn act, then just one statement; the run goes on from there, or stops.
-module _ (act : Machine → Effect) (cells left t : ℕ) (es : List Event) (m : Machine) (inside : m .next < cells) where
-  abbrev there : Machine
-  there = reach t es m .machine
-
-  pub one-statement : let now = turn cells (act there) there in
-      runFrom act cells (suc left) t es m
-      ≡ after (recordBytes t (now .wrote)) (cond (now .stops) (ended 2 (suc t) (now .machine)) (runFrom act cells left (suc t) (reach t es m .left) (now .machine)))
-  unfolding runFrom
-  one-statement = rw (lt-leb cells (m .next) inside) (by-stop (turn cells (act there) there .stops))
-    where
-      by-stop : (b : Bool) → let now = turn cells (act there) there in
-          cond b (after (recordBytes t (now .wrote)) (ended 2 (suc t) (now .machine))) (after (recordBytes t (now .wrote)) (runFrom act cells left (suc t) (reach t es m .left) (now .machine)))
-          ≡ after (recordBytes t (now .wrote)) (cond b (ended 2 (suc t) (now .machine)) (runFrom act cells left (suc t) (reach t es m .left) (now .machine)))
-      by-stop true = refl
-      by-stop false = refl
 
 -- Events 2: in a script without a bad event turns never fall.
 right-none : (a b : Bool) → (a || b) ≡ false → b ≡ false

@@ -27,8 +27,8 @@ stateOf m =
     record {
       variables = m .variables;
       next = m .next;
-      places = m .places;
-      kept = m .kept;
+      places = m .places .cells;
+      kept = m .places .kept;
       handler = m .handler;
       hold = m .hold;
       motion = motionNumber (m .motion);

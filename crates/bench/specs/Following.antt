@@ -16,7 +16,7 @@ use Rattle.bench.specs.declared.Ran.{Ran}
 
 -- Turn 7: what the line at the machine's next place does; a label's place and a variable's number are found by name.
 unfoldable pub lineActs : List Line → Machine → Effect
-lineActs text m = effect (placeOf text) (numberOf text) (m .variables) (m .kept) (m .hold) (lineAt text (m .next))
+lineActs text m = effect (placeOf text) (numberOf text) (m .variables) (m .places .kept) (m .hold) (lineAt text (m .next))
 
 -- Turn 6, Text 9: the text's own run from its start.
 unfoldable pub linesCourse : List Line → List ℕ → ℕ → Course

@@ -127,7 +127,7 @@ module _ {M : Type 0} (happens : Event → M → M) where
       by-turn false l = f
 
 -- Every list of events is of events.
-all-events : (es : List Event) → T (allOf (λ (e : Event). true) es)
+pub all-events : (es : List Event) → T (allOf (λ (e : Event). true) es)
 unfolding allOf
 all-events [] = tt
 all-events (e ∷ es) = all-events es

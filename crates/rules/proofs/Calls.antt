@@ -21,32 +21,32 @@ use Rattle.rules.proofs.Errors.{Leaves, as-is, InError, in-error}
 -- cell, and the run stops; places and handler are as before. So the label's cell is next only where it is one of these two.
 pub record NoJump (label : ℕ) (m : Machine) (t : Turned) : Type 0 where
   pub error : InError 104 m t
-  pub unarmed : m .handler ≡ noHandler → Leaves (m .next + 1) (m .places) (m .kept) (m .handler) false t
-  pub armed : (m .handler ≡ noHandler → ⊥) → Leaves (m .next) (m .places) (m .kept) (m .handler) true t
+  pub unarmed : m .handler ≡ noHandler → Leaves (m .next + 1) (m .places) (m .handler) false t
+  pub armed : (m .handler ≡ noHandler → ⊥) → Leaves (m .next) (m .places) (m .handler) true t
   pub not-there : (label ≡ m .next + 1 → ⊥) → (label ≡ m .next → ⊥) → t .machine .next ≡ label → ⊥
 
 module _ {R : Type 0} (place number : R → ℕ) (m : Machine) (n : R) (c : Condition R) where
   abbrev met : Bool
-  met = holds place number (m .variables) (m .kept) (m .hold) c
+  met = holds place number (m .variables) (m .places .kept) (m .hold) c
 
   abbrev does : Effect
-  does = effect place number (m .variables) (m .kept) (m .hold) (CL n c)
+  does = effect place number (m .variables) (m .places .kept) (m .hold) (CL n c)
 
   -- Turn 12, Turn 21: a CL is in error exactly where its condition holds and eight places are kept, and the error is 104.
-  pub call-fails : met ≡ true → 8 ≤ m .kept → does ≡ Fails 104
+  pub call-fails : met ≡ true → 8 ≤ m .places .kept → does ≡ Fails 104
   unfolding effect callingIf calling
-  call-fails t k = rw (t, le-ltb (m .kept) 8 k)
+  call-fails t k = rw (t, le-ltb (m .places .kept) 8 k)
 
-  pub call-failed : (error : ℕ) → does ≡ Fails error → (error ≡ 104) × (met ≡ true) × (8 ≤ m .kept)
+  pub call-failed : (error : ℕ) → does ≡ Fails error → (error ≡ 104) × (met ≡ true) × (8 ≤ m .places .kept)
   unfolding effect callingIf calling
   call-failed error e = by-condition met refl e
     where
-      by-places : (t : Bool) → ltb (m .kept) 8 ≡ t → cond t (Calls (place n)) (Fails 104) ≡ Fails error → (error ≡ 104) × (8 ≤ m .kept)
+      by-places : (t : Bool) → ltb (m .places .kept) 8 ≡ t → cond t (Calls (place n)) (Fails 104) ≡ Fails error → (error ≡ 104) × (8 ≤ m .places .kept)
       by-places true k e = let z : _≡_ {A = ℕ} 0 1 = cc in absurd (omega arith)
-      by-places false k e = (cc, ltb-false (m .kept) 8 k)
+      by-places false k e = (cc, ltb-false (m .places .kept) 8 k)
 
-      by-condition : (t : Bool) → met ≡ t → callingIf place number (m .variables) (m .kept) (m .hold) n t ≡ Fails error → (error ≡ 104) × (met ≡ true) × (8 ≤ m .kept)
-      by-condition true h e = let p = by-places (ltb (m .kept) 8) refl e in (p .0, h, p .1)
+      by-condition : (t : Bool) → met ≡ t → callingIf place number (m .variables) (m .places .kept) (m .hold) n t ≡ Fails error → (error ≡ 104) × (met ≡ true) × (8 ≤ m .places .kept)
+      by-condition true h e = let p = by-places (ltb (m .places .kept) 8) refl e in (p .0, h, p .1)
       by-condition false h e = let z : _≡_ {A = ℕ} 0 1 = cc in absurd (omega arith)
 
   module _ (cells : ℕ) where
@@ -67,11 +67,11 @@ module _ {R : Type 0} (place number : R → ℕ) (m : Machine) (n : R) (c : Cond
         })
 
     -- Turn 12, Turn 13: where its condition holds and a place is free, it goes to its label and keeps the following cell.
-    pub call-made : met ≡ true → m .kept < 8 → Leaves (place n) (set (m .places) (m .kept) (m .next + 1)) (m .kept + 1) (m .handler) false (turn cells does m)
-    unfolding effect callingIf calling turn called keep
-    call-made t k = rw (t, lt-ltb (m .kept) 8 k) (as-is _)
+    pub call-made : met ≡ true → m .places .kept < 8 → Leaves (place n) (keep (m .places) (m .next + 1)) (m .handler) false (turn cells does m)
+    unfolding effect callingIf calling turn called
+    call-made t k = rw (t, lt-ltb (m .places .kept) 8 k) (as-is _)
 
     -- Turn 12: where its condition does not hold, the following cell is next, and nothing is kept.
-    pub call-passed : met ≡ false → Leaves (m .next + 1) (m .places) (m .kept) (m .handler) false (turn cells does m)
+    pub call-passed : met ≡ false → Leaves (m .next + 1) (m .places) (m .handler) false (turn cells does m)
     unfolding effect callingIf turn
     call-passed t = rw t (as-is _)

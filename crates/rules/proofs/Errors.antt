@@ -5,7 +5,7 @@ use mathlib.Core.Bool.{Bool, true, false}
 use mathlib.Core.List.{List}
 use Prim.Native.Nat.{ℕ, suc, _+_, _≤_, _<_}
 use native.Mathlib.Omega.{arith}
-use borrow.Author.Tests.{lt-leb, lt-ltb, le-ltb, eq-eqb, ne-eqb}
+use borrow.Author.Tests.{lt-ltb, le-ltb, eq-eqb, ne-eqb}
 use lib.Dec.{eqb, ltb}
 use lib.IntN.{ℤ, pos}
 use lib.ListN.{length, set, length-set}
@@ -13,18 +13,20 @@ use Rattle.effects.specs.declared.Effect.{Effect}
 use Rattle.effects.specs.declared.Effect.the-variants.{Fails}
 use Rattle.effects.specs.Effects.{read}
 use Rattle.machine.specs.declared.Machine.{Machine}
+use Rattle.machine.specs.declared.Places.{Places}
 use Rattle.machine.specs.declared.Turned.{Turned}
 use Rattle.machine.specs.declared.Event.{Event}
 use Rattle.machine.specs.Turn.{noHandler, turned, onward, withHandler, recorded, keep, called, flagged, failed, turn}
 use Rattle.machine.specs.Events.{recordBytes}
-use Rattle.machine.specs.Run.{reach, runFrom, ended, after}
+use Rattle.machine.specs.Run.{reach, runFrom}
+use Rattle.machine.proofs.Traces.{ended, after}
+use Rattle.machine.proofs.Courses.{one-statement}
 use Rattle.rules.proofs.Values.{chosen, read-same, read-other}
 
--- A turn leaves this next cell, these places, so many of them kept, this handler; it stops the run or not.
-pub record Leaves (next : ℕ) (places : List ℕ) (kept handler : ℕ) (stops : Bool) (t : Turned) : Type 0 where
+-- A turn leaves this next cell, these places and this handler; it stops the run or not.
+pub record Leaves (next : ℕ) (places : Places) (handler : ℕ) (stops : Bool) (t : Turned) : Type 0 where
   pub next-cell : t .machine .next ≡ next
   pub all-places : t .machine .places ≡ places
-  pub kept-places : t .machine .kept ≡ kept
   pub handler-cell : t .machine .handler ≡ handler
   pub stopping : t .stops ≡ stops
 
@@ -36,15 +38,15 @@ pub record InError (error : ℕ) (m : Machine) (t : Turned) : Type 0 where
   pub hold : t .machine .hold ≡ m .hold
   pub wrote : t .wrote ≡ recorded 6 0 (pos error)
   -- Turn 24: no handler: the following cell is next, and places and handler stay.
-  pub unarmed : m .handler ≡ noHandler → Leaves (m .next + 1) (m .places) (m .kept) (m .handler) false t
+  pub unarmed : m .handler ≡ noHandler → Leaves (m .next + 1) (m .places) (m .handler) false t
   -- Turn 25: with a handler and a place free the handler is next; the following cell is kept, and no handler is armed.
-  pub armed : (m .handler ≡ noHandler → ⊥) → m .kept < 8 → Leaves (m .handler) (set (m .places) (m .kept) (m .next + 1)) (m .kept + 1) noHandler false t
+  pub armed : (m .handler ≡ noHandler → ⊥) → m .places .kept < 8 → Leaves (m .handler) (keep (m .places) (m .next + 1)) noHandler false t
   -- Turn 25: a handler, and all eight places in use: the run stops, and nothing of these four changes.
-  pub full : (m .handler ≡ noHandler → ⊥) → 8 ≤ m .kept → Leaves (m .next) (m .places) (m .kept) (m .handler) true t
+  pub full : (m .handler ≡ noHandler → ⊥) → 8 ≤ m .places .kept → Leaves (m .next) (m .places) (m .handler) true t
 
 -- A turn leaves its own parts.
-pub as-is : (t : Turned) → Leaves (t .machine .next) (t .machine .places) (t .machine .kept) (t .machine .handler) (t .stops) t
-as-is t = record { next-cell = refl; all-places = refl; kept-places = refl; handler-cell = refl; stopping = refl }
+pub as-is : (t : Turned) → Leaves (t .machine .next) (t .machine .places) (t .machine .handler) (t .stops) t
+as-is t = record { next-cell = refl; all-places = refl; handler-cell = refl; stopping = refl }
 
 -- A turn in error that stops the run; what holds of each of the three ways holds of a turn in error.
 abbrev pub halted : ℕ → Machine → Turned
@@ -55,7 +57,7 @@ each-way : (P : Turned → Type 0) (error : ℕ) (m : Machine)
     → P (turned (called (m .handler) (withHandler noHandler (flagged error m))) (recorded 6 0 (pos error)))
     → P (halted error m) → P (failed error m)
 unfolding failed
-each-way P error m a b c = chosen P (eqb (m .handler) noHandler) (λ k. a) (λ k. chosen P (ltb (m .kept) 8) (λ l. b) (λ l. c))
+each-way P error m a b c = chosen P (eqb (m .handler) noHandler) (λ k. a) (λ k. chosen P (ltb (m .places .kept) 8) (λ l. b) (λ l. c))
 
 pub in-error : (cells error : ℕ) (m : Machine) → InError error m (turn cells (Fails error) m)
 unfolding turn failed flagged called keep
@@ -66,8 +68,8 @@ in-error cells error m =
       hold = each-way (λ (t : Turned). t .machine .hold ≡ m .hold) error m refl refl refl;
       wrote = each-way (λ (t : Turned). t .wrote ≡ recorded 6 0 (pos error)) error m refl refl refl;
       unarmed = λ e. rw (eq-eqb (m .handler) noHandler e) (as-is _);
-      armed = λ n k. rw (ne-eqb (m .handler) noHandler n, lt-ltb (m .kept) 8 k) (as-is _);
-      full = λ n k. rw (ne-eqb (m .handler) noHandler n, le-ltb (m .kept) 8 k) (as-is _);
+      armed = λ n k. rw (ne-eqb (m .handler) noHandler n, lt-ltb (m .places .kept) 8 k) (as-is _);
+      full = λ n k. rw (ne-eqb (m .handler) noHandler n, le-ltb (m .places .kept) 8 k) (as-is _);
     }
 
 -- The same, variable by variable.
@@ -90,18 +92,18 @@ ef-in-error cells error m l =
     ∙ read-same (set (m .variables) 10 (pos error)) 15 (pos 1) (omega (arith, length-set (m .variables) 10 (pos error)))
 
 -- Turn 25: a handler, and all eight places in use: an error stops the run, and the next cell, the places and the handler stay.
-pub stopped : (cells error : ℕ) (m : Machine) → (m .handler ≡ noHandler → ⊥) → 8 ≤ m .kept → turn cells (Fails error) m ≡ halted error m
+pub stopped : (cells error : ℕ) (m : Machine) → (m .handler ≡ noHandler → ⊥) → 8 ≤ m .places .kept → turn cells (Fails error) m ≡ halted error m
 unfolding turn failed
-stopped cells error m n k = rw (ne-eqb (m .handler) noHandler n, le-ltb (m .kept) 8 k)
+stopped cells error m n k = rw (ne-eqb (m .handler) noHandler n, le-ltb (m .places .kept) 8 k)
 
-pub unmoved : (error : ℕ) (m : Machine) → Leaves (m .next) (m .places) (m .kept) (m .handler) true (halted error m)
+pub unmoved : (error : ℕ) (m : Machine) → Leaves (m .next) (m .places) (m .handler) true (halted error m)
 unfolding flagged
 unmoved error m = as-is (halted error m)
 
 -- Turn 25: the reason is then 2, whatever is left of the budget.
 pub stopped-run : (act : Machine → Effect) (cells left t : ℕ) (es : List Event) (m : Machine) (error : ℕ)
-    → m .next < cells → act (reach t es m .machine) ≡ Fails error → (reach t es m .machine .handler ≡ noHandler → ⊥) → 8 ≤ reach t es m .machine .kept
+    → m .next < cells → act (reach t es m .machine) ≡ Fails error → (reach t es m .machine .handler ≡ noHandler → ⊥) → 8 ≤ reach t es m .machine .places .kept
     → runFrom act cells (suc left) t es m ≡ after (recordBytes t (recorded 6 0 (pos error))) (ended 2 (suc t) (flagged error (reach t es m .machine)))
-unfolding runFrom
 stopped-run act cells left t es m error here a n k =
-    rw (lt-leb cells (m .next) here, a, stopped cells error (reach t es m .machine) n k)
+    let e = stopped cells error (reach t es m .machine) n k in
+    one-statement act cells left t es m here ∙ rw (a, e)

@@ -81,45 +81,6 @@ module _ {cells variables : ℕ} {holds : ℕ → Bool} where
   pub ruled-event : (e : Event) (m : Machine) → T (goodEvent e) → Ruled cells variables holds m → Ruled cells variables holds (happens e m)
   ruled-event e m good r = by-kind e m (kinds-of e good) r
 
-  -- Turn 7: so do all events of a turn.
-  pub ruled-reach : (t : ℕ) (es : List Event) (m : Machine) → T (allOf goodEvent es) → Ruled cells variables holds m → Ruled cells variables holds (reach t es m .machine)
-  unfolding reach allOf
-  ruled-reach t [] m good r = r
-  ruled-reach t (e ∷ es) m good r =
-      let g = both (goodEvent e) (allOf goodEvent es) good in
-      chosen (λ (x : Reached). Ruled cells variables holds (x .machine)) (eqb (e .turn) t)
-      (λ k. ruled-reach t es (happens e m) (g .1) (ruled-event e m (g .0) r)) (λ k. r)
-
--- The events left are good again.
-pub good-left : (t : ℕ) (es : List Event) (m : Machine) → T (allOf goodEvent es) → T (allOf goodEvent (reach t es m .left))
-unfolding reach allOf
-good-left t [] m good = tt
-good-left t (e ∷ es) m good =
-    chosen (λ (x : Reached). T (allOf goodEvent (x .left))) (eqb (e .turn) t)
-    (λ k. good-left t es (happens e m) (both (goodEvent e) (allOf goodEvent es) good .1)) (λ k. good)
-
--- Events leave the next cell.
-next-arrived : (motion : Motion) (m : Machine) → arrivedBy motion m .next ≡ m .next
-unfolding arrivedBy inMotion
-next-arrived Still m = refl
-next-arrived (To z) m = refl
-next-arrived (Slewing z) m = refl
-
-pub next-event : (e : Event) (m : Machine) → happens e m .next ≡ m .next
-unfolding happens
-next-event e m =
-    chosen (λ (x : Machine). x .next ≡ m .next) (eqb (e .kind) 1)
-    (λ k. refl)
-    (λ k. chosen (λ (x : Machine). x .next ≡ m .next) (eqb (e .kind) 2)
-    (λ k. next-arrived (m .motion) m) (λ k. refl))
-
-pub next-reach : (t : ℕ) (es : List Event) (m : Machine) → reach t es m .machine .next ≡ m .next
-unfolding reach
-next-reach t [] m = refl
-next-reach t (e ∷ es) m =
-    chosen (λ (x : Reached). x .machine .next ≡ m .next) (eqb (e .turn) t)
-    (λ k. next-reach t es (happens e m) ∙ next-event e m) (λ k. refl)
-
 -- Refusals 17: the events of a script that is not refused are good.
 neither : (x y : Bool) → T (not (x || y)) → T (not x) × T (not y)
 neither true y t = absurd t

@@ -22,7 +22,7 @@ module _ {R : Type 0} (place number : R → ℕ) (cells : ℕ) (x : Value R) whe
 
   -- One turn of `H x`; so many of them.
   abbrev next : Machine → Machine
-  next m = turn cells (does (m .variables) (m .kept) (m .hold)) m .machine
+  next m = turn cells (does (m .variables) (m .places .kept) (m .hold)) m .machine
 
   abbrev pub turnsOf : ℕ → Machine → Machine
   turnsOf zero m = m
@@ -36,7 +36,7 @@ module _ {R : Type 0} (place number : R → ℕ) (cells : ℕ) (x : Value R) whe
   later : (m : Machine) (k : ℕ) → m .hold ≡ suc k → next m ≡ held k m
   unfolding turn
   later m k e =
-      let d : does (m .variables) (m .kept) (m .hold) ≡ Holds (m .hold - 1) = later-unread (m .variables) (m .kept) (m .hold) (omega arith) in
+      let d : does (m .variables) (m .places .kept) (m .hold) ≡ Holds (m .hold - 1) = later-unread (m .variables) (m .places .kept) (m .hold) (omega arith) in
       let l : m .hold - 1 ≡ k = omega arith in
       ap (λ (f : Effect). turn cells f m .machine) d ∙ ap (λ (n : ℕ). held n m) l
 
@@ -58,8 +58,8 @@ module _ {R : Type 0} (place number : R → ℕ) (cells : ℕ) (x : Value R) whe
     pub left : turnsOf turns m ≡ withHold 0 (onward m)
     pub stays : (j : ℕ) → j < turns → turnsOf j m .next ≡ m .next
 
-  module _ (m : Machine) (turns : ℕ) (quiet : m .hold ≡ 0) (seen : value place number (m .variables) (m .kept) (m .hold) x ≡ pos turns) where
-    started : 1 ≤ turns → turns ≤ 65000 → does (m .variables) (m .kept) (m .hold) ≡ Holds (turns - 1)
+  module _ (m : Machine) (turns : ℕ) (quiet : m .hold ≡ 0) (seen : value place number (m .variables) (m .places .kept) (m .hold) x ≡ pos turns) where
+    started : 1 ≤ turns → turns ≤ 65000 → does (m .variables) (m .places .kept) (m .hold) ≡ Holds (turns - 1)
     unfolding effect holding
     started low high = rw (le-ltb 0 (m .hold) (omega arith), seen, le-leb 1 turns low, le-leb turns 65000 high)
 
@@ -96,10 +96,10 @@ module _ {R : Type 0} (place number : R → ℕ) (cells : ℕ) (x : Value R) whe
 
 -- Turn 18: OE makes the label's place the handler, `OE 0` leaves none; the following cell is next, and the places are as they were.
 module _ {R : Type 0} (place number : R → ℕ) (cells : ℕ) (m : Machine) where
-  pub arms : (n : R) → Leaves (m .next + 1) (m .places) (m .kept) (place n) false (turn cells (effect place number (m .variables) (m .kept) (m .hold) (OE n)) m)
+  pub arms : (n : R) → Leaves (m .next + 1) (m .places) (place n) false (turn cells (effect place number (m .variables) (m .places .kept) (m .hold) (OE n)) m)
   unfolding effect turn
   arms n = as-is _
 
-  pub disarms : Leaves (m .next + 1) (m .places) (m .kept) noHandler false (turn cells (effect place number (m .variables) (m .kept) (m .hold) Disarm) m)
+  pub disarms : Leaves (m .next + 1) (m .places) noHandler false (turn cells (effect place number (m .variables) (m .places .kept) (m .hold) Disarm) m)
   unfolding effect turn
   disarms = as-is _

@@ -2,12 +2,12 @@
 -- Assumes nothing.
 use mathlib.Core.Path.{_≡_, refl, sym, ap, ap₂, _∙_, subst}
 use mathlib.Core.Bool.{Bool, true, false, not}
-use mathlib.Core.List.{List}
+use mathlib.Core.List.{List, [], _∷_, flatMap}
 use mathlib.Core.Logic.{_⊎_, inl, inr, ⊎-elim}
-use Prim.Native.Nat.{ℕ, zero, suc, _+_, _*_, _≤_}
+use Prim.Native.Nat.{ℕ, suc, _+_, _*_, _≤_}
 use native.Mathlib.Omega.{arith}
 use borrow.Author.Tests.{ne-eqb}
-use lib.Dec.{T, eqb, leb, ltb}
+use lib.Dec.{T, eqb, ltb}
 use lib.IntN.{ℤ, pos, _+ℤ_, _-ℤ_}
 use lib.ListN.{length, set, length-set, length-append}
 use Rattle.numbers.specs.Bytes.{bytes}
@@ -21,10 +21,12 @@ use Rattle.machine.specs.declared.Machine.{Machine}
 use Rattle.machine.specs.declared.Motion.{Motion}
 use Rattle.machine.specs.declared.Motion.the-variants.{Still, To, Slewing}
 use Rattle.machine.specs.declared.Record.{Record}
+use Rattle.machine.specs.declared.Turned.{Turned}
 use Rattle.machine.specs.declared.Event.{Event}
 use Rattle.machine.specs.Turn.{stored, inMotion, movingBit, slew, called, returned, held, turn}
 use Rattle.machine.specs.Events.{input, arrivedBy, happens, goodEvent, recordBytes}
-use Rattle.machine.specs.Run.{Course, reach, runFrom, ended, after}
+use Rattle.machine.specs.Run.{Step, Course, plain, courseOf, traceFrom, runFrom}
+use Rattle.machine.proofs.Traces.{few-turns}
 use Rattle.rules.specs.Rules.{Ruled}
 use Rattle.rules.specs.Good.{Good, isHold}
 use Rattle.rules.proofs.Values.{chosen, read-same, read-other, mayHold, if-same}
@@ -45,30 +47,36 @@ pub record Bounded (t left : ℕ) (c : Course) : Type 0 where
   pub whole : length (c .records) ≡ 12 * count
   pub one-each : t + count ≤ c .turns
 
-bounded-end : (reason t left : ℕ) (m : Machine) → Bounded t left (ended reason t m)
-bounded-end reason t left m = record { started = omega arith; budget = omega arith; count = 0; whole = refl; one-each = omega arith }
+-- The records of turns one after the other: 12 bytes for each of so many of them.
+pub record Twelves (n : ℕ) (records : List ℕ) : Type 0 where
+  pub count : ℕ
+  pub whole : length records ≡ 12 * count
+  pub one-each : count ≤ n
 
-bounded-turn : (t left : ℕ) (b : List ℕ) (c : Course) → (length b ≡ 0) ⊎ (length b ≡ 12) → Bounded (suc t) left c → Bounded t (suc left) (after b c)
-bounded-turn t left b c h n =
+twelves : (ss : List (Step Machine Effect Turned)) → Twelves (length ss) (flatMap (λ s. recordBytes (s .turn) (s .came .wrote)) ss)
+unfolding flatMap
+twelves [] = record { count = 0; whole = refl; one-each = omega arith }
+twelves (s ∷ ss) =
+    let n = twelves ss in
     let w = n .whole in
-    let s = n .started in
-    let u = n .budget in
     let o = n .one-each in
+    let e = length-append (recordBytes (s .turn) (s .came .wrote)) (flatMap (λ s. recordBytes (s .turn) (s .came .wrote)) ss) in
     ⊎-elim
-    (λ e. record { started = omega arith; budget = omega arith; count = n .count; whole = length-append b (c .records) ∙ omega arith; one-each = omega arith })
-    (λ e. record { started = omega arith; budget = omega arith; count = suc (n .count); whole = length-append b (c .records) ∙ omega arith; one-each = omega arith })
-    h
+    (λ h. record { count = n .count; whole = e ∙ omega arith; one-each = omega arith })
+    (λ h. record { count = suc (n .count); whole = e ∙ omega arith; one-each = omega arith })
+    (record-length (s .turn) (s .came .wrote))
 
 pub run-bounded : (act : Machine → Effect) (cells left t : ℕ) (es : List Event) (m : Machine) → Bounded t left (runFrom act cells left t es m)
-unfolding runFrom
-run-bounded act cells zero t es m = chosen (Bounded t 0) (leb cells (m .next)) (λ k. bounded-end 1 t 0 m) (λ k. bounded-end 3 t 0 m)
-run-bounded act cells (suc left) t es m =
-    let now = turn cells (act (reach t es m .machine)) (reach t es m .machine) in
-    chosen (Bounded t (suc left)) (leb cells (m .next)) (λ k. bounded-end 1 t (suc left) m)
-    (λ k. chosen (Bounded t (suc left)) (now .stops)
-    (λ s. bounded-turn t left (recordBytes t (now .wrote)) (ended 2 (suc t) (now .machine)) (record-length t (now .wrote)) (bounded-end 2 (suc t) left (now .machine)))
-    (λ s. bounded-turn t left (recordBytes t (now .wrote)) (runFrom act cells left (suc t) (reach t es m .left) (now .machine)) (record-length t (now .wrote))
-    (run-bounded act cells left (suc t) (reach t es m .left) (now .machine))))
+unfolding courseOf
+run-bounded act cells left t es m =
+    let n = twelves (traceFrom act cells left t es m .steps) in
+    record {
+      started = omega arith;
+      budget = omega (arith, few-turns plain act cells left t es m);
+      count = n .count;
+      whole = n .whole;
+      one-each = omega (arith, n .one-each);
+    }
 
 -- Turn 11: nothing but a store to ER clears EF (15); and the store is of 0, the only value that ER takes.
 store-clears : (vars : List ℤ) (v : ℕ) (z : ℤ) → T (not (readOnly v)) → T (mayHold vars v z)
@@ -102,10 +110,10 @@ module _ (cells variables : ℕ) (holds : ℕ → Bool) (m : Machine) (r : Ruled
   ef-cleared (Prints v z) s a = absurd (a set-before)
 
   pub only-er-clears-ef : {R : Type 0} (place number : R → ℕ) (s : Statement R) → Good cells variables place number s → holds (m .next) ≡ isHold s
-      → (read (turn cells (effect place number (m .variables) (m .kept) (m .hold) s) m .machine .variables) 15 ≡ pos 1 → ⊥)
-      → effect place number (m .variables) (m .kept) (m .hold) s ≡ Stores 10 (pos 0)
+      → (read (turn cells (effect place number (m .variables) (m .places .kept) (m .hold) s) m .machine .variables) 15 ≡ pos 1 → ⊥)
+      → effect place number (m .variables) (m .places .kept) (m .hold) s ≡ Stores 10 (pos 0)
   only-er-clears-ef place number s good h a =
-      ef-cleared (effect place number (m .variables) (m .kept) (m .hold) s) (sound-effect cells variables holds m place number s good r h) a
+      ef-cleared (effect place number (m .variables) (m .places .kept) (m .hold) s) (sound-effect cells variables holds m place number s good r h) a
 
 -- Such a store does.
 pub er-clears-ef : (cells : ℕ) (z : ℤ) (m : Machine) → length (m .variables) ≡ 64 → read (turn cells (Stores 10 z) m .machine .variables) 15 ≡ pos 0

@@ -17,10 +17,11 @@ use Rattle.program.proofs.Keys.{both, both-of}
 use Rattle.program.proofs.Ranges.{input-range}
 use Rattle.effects.specs.Effects.{read}
 use Rattle.machine.specs.declared.Machine.{Machine}
+use Rattle.machine.specs.declared.Places.{Places}
 use Rattle.machine.specs.declared.Motion.{Motion}
 use Rattle.machine.specs.declared.Motion.the-variants.{Still, To, Slewing}
 use Rattle.machine.specs.Events.{input}
-use Rattle.machine.specs.Turn.{noHandler, machine, movingBit}
+use Rattle.machine.specs.Turn.{noHandler, machine, movingBit, keep, release}
 use Rattle.rules.specs.Rules.{Ruled, goodMotion}
 use Rattle.rules.proofs.Values.{Values, errorNumber, mayHold, values-set, read-same, read-other, inputs-other, if-same}
 
@@ -32,15 +33,15 @@ pub record Registers (variables : ℕ) (vars : List ℤ) (motion : Motion) : Typ
   pub good-motion : T (goodMotion motion)
 
 -- The return places with their number.
-pub record Kept (cells : ℕ) (places : List ℕ) (kept : ℕ) : Type 0 where
-  pub there : length places ≡ 8
-  pub most : kept ≤ 8
-  pub place-cells : (k : ℕ) → getD places k 0 ≤ cells
-  pub unused : (k : ℕ) → kept ≤ k → getD places k 0 ≡ 0
+pub record Kept (cells : ℕ) (places : Places) : Type 0 where
+  pub there : length (places .cells) ≡ 8
+  pub most : places .kept ≤ 8
+  pub place-cells : (k : ℕ) → getD (places .cells) k 0 ≤ cells
+  pub unused : (k : ℕ) → places .kept ≤ k → getD (places .cells) k 0 ≡ 0
 
 -- The way through the cells: next cell, return places, handler and hold.
-pub record Way (cells : ℕ) (holds : ℕ → Bool) (next : ℕ) (places : List ℕ) (kept handler hold : ℕ) : Type 0 where
-  pub back : Kept cells places kept
+pub record Way (cells : ℕ) (holds : ℕ → Bool) (next : ℕ) (places : Places) (handler hold : ℕ) : Type 0 where
+  pub back : Kept cells places
   pub next-cell : next ≤ cells
   pub handler-cell : (handler ≡ noHandler → ⊥) → handler ≤ cells
   pub hold-most : hold ≤ 64999
@@ -57,7 +58,7 @@ module _ {cells variables : ℕ} {holds : ℕ → Bool} {m : Machine} (r : Ruled
         good-motion = r .motion;
       }
 
-  pub way-of : Way cells holds (m .next) (m .places) (m .kept) (m .handler) (m .hold)
+  pub way-of : Way cells holds (m .next) (m .places) (m .handler) (m .hold)
   way-of =
       record {
         back = record { there = r .all-there .1; most = r .kept; place-cells = r .places; unused = r .unused-places };
@@ -67,9 +68,9 @@ module _ {cells variables : ℕ} {holds : ℕ → Bool} {m : Machine} (r : Ruled
         hold-at = r .hold-at;
       }
 
-module _ {cells variables : ℕ} {holds : ℕ → Bool} {vars : List ℤ} {next : ℕ} {places : List ℕ} {kept handler hold : ℕ} {motion : Motion} where
-  pub together : Registers variables vars motion → Way cells holds next places kept handler hold
-      → Ruled cells variables holds (machine vars next places kept handler hold motion)
+module _ {cells variables : ℕ} {holds : ℕ → Bool} {vars : List ℤ} {next : ℕ} {places : Places} {handler hold : ℕ} {motion : Motion} where
+  pub together : Registers variables vars motion → Way cells holds next places handler hold
+      → Ruled cells variables holds (machine vars next places handler hold motion)
   together g w =
       record {
         all-there = (g .values .there, w .back .there);
@@ -165,45 +166,47 @@ module _ {variables : ℕ} {vars : List ℤ} {motion : Motion} (g : Registers va
       }
 
 -- One place more; the place kept last is free again.
-module _ {cells : ℕ} {places : List ℕ} {kept : ℕ} (b : Kept cells places kept) where
-  pub keep-one : (cell : ℕ) → cell ≤ cells → kept < 8 → Kept cells (set places kept cell) (kept + 1)
+module _ {cells : ℕ} {places : Places} (b : Kept cells places) where
+  pub keep-one : (cell : ℕ) → cell ≤ cells → places .kept < 8 → Kept cells (keep places cell)
+  unfolding keep
   keep-one cell t k =
       let l = b .there in
       record {
-        there = length-set places kept cell ∙ b .there;
+        there = length-set (places .cells) (places .kept) cell ∙ b .there;
         most = omega arith;
         place-cells =
-            λ i. if-same i kept
-            (λ e. rw (e, getD-set-same places kept cell 0 (omega arith)) t)
-            (λ n. rw (getD-set-other places kept i cell 0 n) (b .place-cells i));
-        unused = λ i h. getD-set-other places kept i cell 0 (λ e. omega arith) ∙ b .unused i (omega arith);
+            λ i. if-same i (places .kept)
+            (λ e. rw (e, getD-set-same (places .cells) (places .kept) cell 0 (omega arith)) t)
+            (λ n. rw (getD-set-other (places .cells) (places .kept) i cell 0 n) (b .place-cells i));
+        unused = λ i h. getD-set-other (places .cells) (places .kept) i cell 0 (λ e. omega arith) ∙ b .unused i (omega arith);
       }
 
-  pub free-one : 0 < kept → Kept cells (set places (kept - 1) 0) (kept - 1)
+  pub free-one : 0 < places .kept → Kept cells (release places)
+  unfolding release
   free-one k =
       let l = b .there in
       let m = b .most in
-      let same : getD (set places (kept - 1) 0) (kept - 1) 0 ≡ 0 = getD-set-same places (kept - 1) 0 0 (omega arith) in
+      let same : getD (set (places .cells) (places .kept - 1) 0) (places .kept - 1) 0 ≡ 0 = getD-set-same (places .cells) (places .kept - 1) 0 0 (omega arith) in
       record {
-        there = length-set places (kept - 1) 0 ∙ b .there;
+        there = length-set (places .cells) (places .kept - 1) 0 ∙ b .there;
         most = omega arith;
         place-cells =
-            λ i. if-same i (kept - 1)
+            λ i. if-same i (places .kept - 1)
             (λ e. rw e (omega arith))
-            (λ n. rw (getD-set-other places (kept - 1) i 0 0 n) (b .place-cells i));
+            (λ n. rw (getD-set-other (places .cells) (places .kept - 1) i 0 0 n) (b .place-cells i));
         unused =
-            λ i h. if-same i (kept - 1)
+            λ i h. if-same i (places .kept - 1)
             (λ e. rw e same)
-            (λ n. getD-set-other places (kept - 1) i 0 0 n ∙ b .unused i (omega arith));
+            (λ n. getD-set-other (places .cells) (places .kept - 1) i 0 0 n ∙ b .unused i (omega arith));
       }
 
 -- On to another cell where no hold runs, with other places; another handler; so many turns of a hold.
-module _ {cells : ℕ} {holds : ℕ → Bool} {next : ℕ} {places : List ℕ} {kept handler hold : ℕ} (w : Way cells holds next places kept handler hold) where
-  pub way-at : (to : ℕ) {others : List ℕ} {count : ℕ} → to ≤ cells → Kept cells others count → hold ≡ 0 → Way cells holds to others count handler hold
+module _ {cells : ℕ} {holds : ℕ → Bool} {next : ℕ} {places : Places} {handler hold : ℕ} (w : Way cells holds next places handler hold) where
+  pub way-at : (to : ℕ) {others : Places} → to ≤ cells → Kept cells others → hold ≡ 0 → Way cells holds to others handler hold
   way-at to t b h = record { back = b; next-cell = t; handler-cell = w .handler-cell; hold-most = w .hold-most; hold-at = λ n. absurd (n h) }
 
-  pub way-arm : (to : ℕ) → ((to ≡ noHandler → ⊥) → to ≤ cells) → Way cells holds next places kept to hold
+  pub way-arm : (to : ℕ) → ((to ≡ noHandler → ⊥) → to ≤ cells) → Way cells holds next places to hold
   way-arm to t = record { back = w .back; next-cell = w .next-cell; handler-cell = t; hold-most = w .hold-most; hold-at = w .hold-at }
 
-  pub way-hold : (turns : ℕ) → turns ≤ 64999 → T (holds next) → Way cells holds next places kept handler turns
+  pub way-hold : (turns : ℕ) → turns ≤ 64999 → T (holds next) → Way cells holds next places handler turns
   way-hold turns t h = record { back = w .back; next-cell = w .next-cell; handler-cell = w .handler-cell; hold-most = t; hold-at = λ n. h }

@@ -3,19 +3,20 @@
 use mathlib.Core.Path.{sym, subst}
 use mathlib.Core.Bool.{Bool}
 use mathlib.Core.List.{List}
-use Prim.Native.Nat.{ℕ, zero, suc, _<_}
-use lib.Dec.{T, leb, nleb→lt}
+use Prim.Native.Nat.{ℕ, _<_}
+use lib.Dec.{T}
 use Rattle.numbers.specs.Tests.{allOf}
 use Rattle.effects.specs.declared.Effect.{Effect}
 use Rattle.machine.specs.declared.Machine.{Machine}
 use Rattle.machine.specs.declared.Event.{Event}
 use Rattle.machine.specs.Turn.{turn}
 use Rattle.machine.specs.Events.{goodEvent}
-use Rattle.machine.specs.Run.{Course, reach, runFrom}
+use Rattle.machine.specs.Run.{plain, courseOf, runFrom}
+use Rattle.machine.proofs.Quiet.{happens-next}
+use Rattle.machine.proofs.Traces.{run-keeps}
 use Rattle.rules.specs.Rules.{Ruled}
 use Rattle.rules.specs.Good.{Acts}
-use Rattle.rules.proofs.Values.{chosen}
-use Rattle.rules.proofs.Events.{ruled-reach, good-left, next-reach}
+use Rattle.rules.proofs.Events.{ruled-event}
 use Rattle.rules.proofs.Turn.{ruled-turn}
 
 module _ {R : Type 0} (cells variables : ℕ) (holds : ℕ → Bool) (place number : R → ℕ) (act : Machine → Effect)
@@ -30,13 +31,5 @@ module _ {R : Type 0} (cells variables : ℕ) (holds : ℕ → Bool) (place numb
   -- Turn 3 to 7: the final state, whatever the budget.
   pub ruled-run : (left t : ℕ) (es : List Event) (m : Machine) → T (allOf goodEvent es) → Ruled cells variables holds m
       → Ruled cells variables holds (runFrom act cells left t es m .machine)
-  unfolding runFrom
-  ruled-run zero t es m good r = chosen (λ (c : Course). Ruled cells variables holds (c .machine)) (leb cells (m .next)) (λ k. r) (λ k. r)
-  ruled-run (suc left) t es m good r =
-      chosen (λ (c : Course). Ruled cells variables holds (c .machine)) (leb cells (m .next)) (λ k. r)
-      (λ k.
-      let here : reach t es m .machine .next < cells = subst (λ (n : ℕ). n < cells) (sym (next-reach t es m)) (nleb→lt cells (m .next) k) in
-      let now = ruled-act (reach t es m .machine) (ruled-reach t es m good r) here in
-      chosen (λ (c : Course). Ruled cells variables holds (c .machine)) (turn cells (act (reach t es m .machine)) (reach t es m .machine) .stops)
-      (λ s. now)
-      (λ s. ruled-run left (suc t) (reach t es m .left) (turn cells (act (reach t es m .machine)) (reach t es m .machine) .machine) (good-left t es m good) now))
+  unfolding courseOf
+  ruled-run = run-keeps plain happens-next act cells (Ruled cells variables holds) goodEvent ruled-event ruled-act

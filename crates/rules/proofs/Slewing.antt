@@ -1,11 +1,11 @@
 -- The axis never slews at velocity 0: no turn, no event and no run makes it.
 -- Assumes nothing.
 use mathlib.Core.Path.{_≡_, refl, subst}
-use mathlib.Core.Bool.{not}
-use mathlib.Core.List.{List, [], _∷_}
-use Prim.Native.Nat.{ℕ, zero, suc}
+use mathlib.Core.Bool.{true, not}
+use mathlib.Core.List.{List}
+use Prim.Native.Nat.{ℕ}
 use native.Mathlib.Omega.{arith}
-use lib.Dec.{T, eqb, leb, ltb}
+use lib.Dec.{T, eqb, ltb}
 use lib.IntN.{ℤ, pos}
 use Rattle.numbers.specs.Tests.{eqZ}
 use Rattle.effects.specs.declared.Effect.{Effect}
@@ -17,7 +17,9 @@ use Rattle.machine.specs.declared.Motion.the-variants.{Still, To, Slewing}
 use Rattle.machine.specs.declared.Event.{Event}
 use Rattle.machine.specs.Turn.{startMachine, movingBit, inMotion, slew, called, returned, held, turn}
 use Rattle.machine.specs.Events.{arrivedBy, happens}
-use Rattle.machine.specs.Run.{Course, Reached, reach, runFrom}
+use Rattle.machine.specs.Run.{plain, courseOf, runFrom}
+use Rattle.machine.proofs.Quiet.{happens-next}
+use Rattle.machine.proofs.Traces.{all-events, run-keeps}
 use Rattle.rules.proofs.Values.{chosen, read-other}
 use Rattle.rules.proofs.Errors.{in-error}
 
@@ -62,7 +64,7 @@ turn-nonzero cells (Moves target kind z) m h = to target
 turn-nonzero cells (Slews z) m h = slew-nonzero z
 turn-nonzero cells (Prints v z) m h = h
 
--- Events 2: nor does an event, good or not, nor all events of a turn.
+-- Events 2: nor does an event, good or not.
 arrived-nonzero : (motion : Motion) (m : Machine) → NoZeroSlew (m .motion) → NoZeroSlew (arrivedBy motion m .motion)
 unfolding arrivedBy inMotion
 arrived-nonzero Still m h = h
@@ -76,23 +78,12 @@ event-nonzero e m h =
     (λ k. h)
     (λ k. chosen (λ (x : Machine). NoZeroSlew (x .motion)) (eqb (e .kind) 2) (λ l. arrived-nonzero (m .motion) m h) (λ l. h))
 
-pub events-nonzero : (t : ℕ) (es : List Event) (m : Machine) → NoZeroSlew (m .motion) → NoZeroSlew (reach t es m .machine .motion)
-unfolding reach
-events-nonzero t [] m h = h
-events-nonzero t (e ∷ es) m h =
-    chosen (λ (r : Reached). NoZeroSlew (r .machine .motion)) (eqb (e .turn) t) (λ k. events-nonzero t es (happens e m) (event-nonzero e m h)) (λ k. h)
-
 -- Turn 5, Turn 20: nor does a run, whatever its statements, its events and its budget.
 pub run-nonzero : (act : Machine → Effect) (cells left t : ℕ) (es : List Event) (m : Machine) → NoZeroSlew (m .motion)
     → NoZeroSlew (runFrom act cells left t es m .machine .motion)
-unfolding runFrom
-run-nonzero act cells zero t es m h = chosen (λ (c : Course). NoZeroSlew (c .machine .motion)) (leb cells (m .next)) (λ k. h) (λ k. h)
-run-nonzero act cells (suc left) t es m h =
-    let r = reach t es m in
-    let now = turn cells (act (r .machine)) (r .machine) in
-    let moved = turn-nonzero cells (act (r .machine)) (r .machine) (events-nonzero t es m h) in
-    chosen (λ (c : Course). NoZeroSlew (c .machine .motion)) (leb cells (m .next)) (λ k. h)
-    (λ k. chosen (λ (c : Course). NoZeroSlew (c .machine .motion)) (now .stops) (λ s. moved) (λ s. run-nonzero act cells left (suc t) (r .left) (now .machine) moved))
+unfolding courseOf
+run-nonzero act cells left t es m h =
+    run-keeps plain happens-next act cells (λ x. NoZeroSlew (x .motion)) (λ e. true) (λ e x f k. event-nonzero e x k) (λ x k l. turn-nonzero cells (act x) x k) left t es m (all-events es) h
 
 -- Turn 5, Turn 20: a run from the start never ends in a slew at velocity 0.
 pub started-nonzero : (act : Machine → Effect) (cells left t : ℕ) (es : List Event) (values : List ℤ)

@@ -48,8 +48,8 @@ module _ (cells variables : ℕ) (holds : ℕ → Bool) (m : Machine) where
   Sound (Stores v z) = T (present variables v) × T (not (readOnly v)) × T (mayHold (m .variables) v z) × (m .hold ≡ 0)
   Sound Passes = m .hold ≡ 0
   Sound (Goes cell) = (cell ≤ cells) × (m .hold ≡ 0)
-  Sound (Calls cell) = (cell ≤ cells) × (m .kept < 8) × (m .hold ≡ 0)
-  Sound Returns = (0 < m .kept) × (m .hold ≡ 0)
+  Sound (Calls cell) = (cell ≤ cells) × (m .places .kept < 8) × (m .hold ≡ 0)
+  Sound Returns = (0 < m .places .kept) × (m .hold ≡ 0)
   Sound Ends = m .hold ≡ 0
   Sound Stays = m .hold ≡ 0
   Sound (Holds turns) = (turns ≤ 64999) × T (holds (m .next))
@@ -76,13 +76,13 @@ module _ (cells variables : ℕ) (holds : ℕ → Bool) (m : Machine) where
     fine-with v o x y w =
         chosen Sound (zeroDivisor o y) (λ t. (tt, quiet)) (λ t. fine-result v (operate o x y) w)
 
-    fine-calling : (cell : ℕ) → cell ≤ cells → Sound (calling (m .kept) cell)
+    fine-calling : (cell : ℕ) → cell ≤ cells → Sound (calling (m .places .kept) cell)
     unfolding calling
-    fine-calling cell c = chosen Sound (ltb (m .kept) 8) (λ t. (c, ltb→lt (m .kept) 8 t, quiet)) (λ t. (tt, quiet))
+    fine-calling cell c = chosen Sound (ltb (m .places .kept) 8) (λ t. (c, ltb→lt (m .places .kept) 8 t, quiet)) (λ t. (tt, quiet))
 
-    fine-returning : Sound (returning (m .kept))
+    fine-returning : Sound (returning (m .places .kept))
     unfolding returning
-    fine-returning = chosen Sound (ltb 0 (m .kept)) (λ t. (ltb→lt 0 (m .kept) t, quiet)) (λ t. (tt, quiet))
+    fine-returning = chosen Sound (ltb 0 (m .places .kept)) (λ t. (ltb→lt 0 (m .places .kept) t, quiet)) (λ t. (tt, quiet))
 
     fine-waiting : Sound (waiting (m .variables))
     unfolding waiting
@@ -99,17 +99,17 @@ module _ (cells variables : ℕ) (holds : ℕ → Bool) (m : Machine) where
     fine-slewing z = chosen Sound (inRange slewRange z) (λ t. (t, quiet)) (λ t. (tt, quiet))
 
     module _ {R : Type 0} (place number : R → ℕ) where
-      fine-branching : (n : R) (t : Bool) → place n ≤ cells → Sound (branching place number (m .variables) (m .kept) (m .hold) n t)
+      fine-branching : (n : R) (t : Bool) → place n ≤ cells → Sound (branching place number (m .variables) (m .places .kept) (m .hold) n t)
       unfolding branching
       fine-branching n true c = (c, quiet)
       fine-branching n false c = quiet
 
-      fine-callingIf : (n : R) (t : Bool) → place n ≤ cells → Sound (callingIf place number (m .variables) (m .kept) (m .hold) n t)
+      fine-callingIf : (n : R) (t : Bool) → place n ≤ cells → Sound (callingIf place number (m .variables) (m .places .kept) (m .hold) n t)
       unfolding callingIf
       fine-callingIf n true c = fine-calling (place n) c
       fine-callingIf n false c = quiet
 
-      fine-printing : (x : Value R) → Sound (printing place number (m .variables) (m .kept) (m .hold) x)
+      fine-printing : (x : Value R) → Sound (printing place number (m .variables) (m .places .kept) (m .hold) x)
       unfolding printing
       fine-printing (S.Literal z) = quiet
       fine-printing (S.Variable v) = quiet
@@ -139,7 +139,7 @@ module _ (cells variables : ℕ) (holds : ℕ → Bool) (m : Machine) where
     first-written v t = both (writable variables (number v)) true t .0
 
     pub sound-effect : (s : Statement R) → Good cells variables place number s → Ruled cells variables holds m → holds (m .next) ≡ isHold s
-        → Sound (effect place number (m .variables) (m .kept) (m .hold) s)
+        → Sound (effect place number (m .variables) (m .places .kept) (m .hold) s)
     unfolding effect isHold allOf writes targets
     sound-effect (Set v x) g r e = fine-storing (no-hold r e) (number v) _ (first-written v (g .written))
     sound-effect (SetWith v x o y) g r e = fine-with (no-hold r e) (number v) o _ _ (first-written v (g .written))
@@ -159,7 +159,7 @@ module _ (cells variables : ℕ) (holds : ℕ → Bool) (m : Machine) where
     sound-effect (PR x) g r e = fine-printing (no-hold r e) place number x
 
 module _ {cells variables : ℕ} {holds : ℕ → Bool} {m : Machine} (r : Ruled cells variables holds m) (here : m .next < cells) where
-  onward-way : m .hold ≡ 0 → Way cells holds (m .next + 1) (m .places) (m .kept) (m .handler) (m .hold)
+  onward-way : m .hold ≡ 0 → Way cells holds (m .next + 1) (m .places) (m .handler) (m .hold)
   onward-way h = way-at (way-of r) (m .next + 1) (omega arith) (way-of r .back) h
 
   stored-registers : (v : ℕ) (z : ℤ) → T (present variables v) → T (not (readOnly v)) → T (mayHold (m .variables) v z)
@@ -181,8 +181,8 @@ module _ {cells variables : ℕ} {holds : ℕ → Bool} {m : Machine} (r : Ruled
       (λ e. or-second (eqZ (pos error) (pos 0)) (between (pos 101) (pos 106) (pos error)) t))
       15 (pos 1) tt (λ e. omega arith) (inl (omega arith)) (λ n. tt) (λ e. absurd (omega arith))
 
-  called-way : (cell : ℕ) → cell ≤ cells → m .kept < 8 → m .hold ≡ 0
-      → Way cells holds cell (set (m .places) (m .kept) (m .next + 1)) (m .kept + 1) (m .handler) (m .hold)
+  called-way : (cell : ℕ) → cell ≤ cells → m .places .kept < 8 → m .hold ≡ 0
+      → Way cells holds cell (keep (m .places) (m .next + 1)) (m .handler) (m .hold)
   called-way cell t k h = way-at (way-of r) cell t (keep-one (way-of r .back) (m .next + 1) (omega arith) k) h
 
   good-slew : (z : ℤ) → T (inRange slewRange z) → T (goodMotion (slew z))
@@ -190,13 +190,13 @@ module _ {cells variables : ℕ} {holds : ℕ → Bool} {m : Machine} (r : Ruled
   good-slew z t = chosen (λ (x : Motion). T (goodMotion x)) (eqZ z (pos 0)) (λ k. tt) (λ k. t)
 
   ruled-failed : (error : ℕ) → T (between (pos 101) (pos 106) (pos error)) → m .hold ≡ 0 → Ruled cells variables holds (failed error m .machine)
-  unfolding failed flagged called keep
+  unfolding failed flagged called
   ruled-failed error t h =
       let g = flagged-registers error t in
       chosen (λ (x : Turned). Ruled cells variables holds (x .machine)) (eqb (m .handler) noHandler)
       (λ k. together g (onward-way h))
-      (λ n. chosen (λ (x : Turned). Ruled cells variables holds (x .machine)) (ltb (m .kept) 8)
-      (λ k. together g (way-arm (called-way (m .handler) (r .handler (not-same (m .handler) noHandler n)) (ltb→lt (m .kept) 8 k) h) noHandler (λ o. absurd (o refl))))
+      (λ n. chosen (λ (x : Turned). Ruled cells variables holds (x .machine)) (ltb (m .places .kept) 8)
+      (λ k. together g (way-arm (called-way (m .handler) (r .handler (not-same (m .handler) noHandler n)) (ltb→lt (m .places .kept) 8 k) h) noHandler (λ o. absurd (o refl))))
       (λ k. together g (way-of r)))
 
   ruled-held : (turns : ℕ) → turns ≤ 64999 → T (holds (m .next)) → Ruled cells variables holds (held turns m)
@@ -208,13 +208,13 @@ module _ {cells variables : ℕ} {holds : ℕ → Bool} {m : Machine} (r : Ruled
 
   -- An effect of that kind keeps the rules.
   pub ruled-effect : (e : Effect) → Sound cells variables holds m e → Ruled cells variables holds (turn cells e m .machine)
-  unfolding turn inMotion called keep returned release lastPlace goodMotion
+  unfolding turn inMotion called returned lastPlace goodMotion
   ruled-effect (Fails error) s = ruled-failed error (s .0) (s .1)
   ruled-effect (Stores v z) s = together (stored-registers v z (s .0) (s .1) (s .2)) (onward-way (s .3))
   ruled-effect Passes s = together (registers-of r) (onward-way s)
   ruled-effect (Goes cell) s = together (registers-of r) (way-at (way-of r) cell (s .0) (way-of r .back) (s .1))
   ruled-effect (Calls cell) s = together (registers-of r) (called-way cell (s .0) (s .1) (s .2))
-  ruled-effect Returns s = together (registers-of r) (way-at (way-of r) (getD (m .places) (m .kept - 1) 0) (r .places (m .kept - 1)) (free-one (way-of r .back) (s .0)) (s .1))
+  ruled-effect Returns s = together (registers-of r) (way-at (way-of r) (getD (m .places .cells) (m .places .kept - 1) 0) (r .places (m .places .kept - 1)) (free-one (way-of r .back) (s .0)) (s .1))
   ruled-effect Ends s = together (registers-of r) (way-at (way-of r) cells (omega arith) (way-of r .back) s)
   ruled-effect Stays s = r
   ruled-effect (Holds turns) s = ruled-held turns (s .0) (s .1)
@@ -227,6 +227,6 @@ module _ {cells variables : ℕ} {holds : ℕ → Bool} {m : Machine} (r : Ruled
 -- Turn 3 to 5: one turn of a good statement keeps the rules; `holds` says of the next cell whether it is an `H x`.
 pub ruled-turn : {R : Type 0} (cells variables : ℕ) (holds : ℕ → Bool) (place number : R → ℕ) (s : Statement R) (m : Machine)
     → Good cells variables place number s → Ruled cells variables holds m → m .next < cells → holds (m .next) ≡ isHold s
-    → Ruled cells variables holds (turn cells (effect place number (m .variables) (m .kept) (m .hold) s) m .machine)
+    → Ruled cells variables holds (turn cells (effect place number (m .variables) (m .places .kept) (m .hold) s) m .machine)
 ruled-turn cells variables holds place number s m good r here e =
-    ruled-effect r here (effect place number (m .variables) (m .kept) (m .hold) s) (sound-effect cells variables holds m place number s good r e)
+    ruled-effect r here (effect place number (m .variables) (m .places .kept) (m .hold) s) (sound-effect cells variables holds m place number s good r e)

@@ -45,4 +45,4 @@ pub record Acts {R : Type 0} (cells variables : ℕ) (holds : ℕ → Bool) (pla
   pub statement : Statement R
   pub good : Good cells variables place number statement
   pub hold : holds (m .next) ≡ isHold statement
-  pub does : act m ≡ effect place number (m .variables) (m .kept) (m .hold) statement
+  pub does : act m ≡ effect place number (m .variables) (m .places .kept) (m .hold) statement

@@ -22,17 +22,17 @@ goodMotion (Slewing z) = inRange slewRange z
 
 -- Turn 3 to 5, Variables 4: the rules for a state of a program with these counts; `holds k` says that cell k is an `H x`.
 pub record Ruled (cells variables : ℕ) (holds : ℕ → Bool) (m : Machine) : Type 0 where
-  pub all-there : (length (m .variables) ≡ 64) × (length (m .places) ≡ 8)
+  pub all-there : (length (m .variables) ≡ 64) × (length (m .places .cells) ≡ 8)
   pub error : T (eqZ (read (m .variables) 10) (pos 0) || between (pos 101) (pos 106) (read (m .variables) 10))
   pub in-range : (v : ℕ) → T (present variables v) → (v ≡ 10 → ⊥) → T (inRange (rangeOf v (read (m .variables) 8) (read (m .variables) 9)) (read (m .variables) v))
   pub inputs : read (m .variables) 20 ≡ allInputs (m .variables)
   pub moving : read (m .variables) 14 ≡ movingBit (m .motion)
   pub motion : T (goodMotion (m .motion))
   pub next : m .next ≤ cells
-  pub kept : m .kept ≤ 8
-  pub places : (k : ℕ) → getD (m .places) k 0 ≤ cells
+  pub kept : m .places .kept ≤ 8
+  pub places : (k : ℕ) → getD (m .places .cells) k 0 ≤ cells
   pub handler : (m .handler ≡ noHandler → ⊥) → m .handler ≤ cells
   pub hold : m .hold ≤ 64999
   pub hold-at : (m .hold ≡ 0 → ⊥) → T (holds (m .next))
-  pub unused-places : (k : ℕ) → m .kept ≤ k → getD (m .places) k 0 ≡ 0
+  pub unused-places : (k : ℕ) → m .places .kept ≤ k → getD (m .places .cells) k 0 ≡ 0
   pub unused-variables : (v : ℕ) → (T (present variables v) → ⊥) → read (m .variables) v ≡ pos 0

@@ -11,7 +11,8 @@ use Rattle.text.specs.Faults.{said, howMany, makesCell}
 use Rattle.translation.specs.Places.{starts}
 use Rattle.machine.specs.Turn.{startMachine}
 use Rattle.machine.specs.Events.{events, badScript, badEvents}
-use Rattle.running.specs.Visits.{visitsFrom, visitsOver}
+use Rattle.machine.specs.Run.{visitsFrom}
+use Rattle.running.specs.Visits.{visitsOver}
 use Rattle.bench.specs.Translating.{translated, translatedInto}
 use Rattle.bench.specs.Running.{bigBudget}
 use Rattle.bench.specs.Following.{lineActs}
