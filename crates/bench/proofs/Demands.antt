@@ -16,7 +16,7 @@ use Rattle.text.specs.Faults.{overlong, fault, firstFault}
 use Rattle.image.specs.Check.{badLength, badEdition, badTrailer, badCells, badRecords, imageFaults, checked}
 use Rattle.machine.specs.Events.{badScript, badEvent, badEvents, firstBadEvent, eventCount, events}
 use Rattle.machine.specs.Run.{Course, over}
-use Rattle.running.specs.Courses.{cellActs, imageCourse}
+use Rattle.running.specs.Courses.{cellActs, imageTrace, imageCourse}
 use Rattle.translation.specs.Images.{image, accepted}
 use Rattle.machine.proofs.Scripts.{bad-events}
 use Rattle.refusals.proofs.Lowest.{lowest-range, lowest-exactly, lowest-zero, first-exactly}
@@ -25,11 +25,11 @@ use Rattle.listing.specs.Listing.{listing}
 use Rattle.listing.proofs.Back.{listing-accepted}
 use Rattle.listing.proofs.Image.{listing-image}
 use Rattle.agreement.proofs.Checked.{image-checked}
-use Rattle.agreement.proofs.Course.{same-course}
+use Rattle.agreement.proofs.Course.{same-steps, same-course}
 use Rattle.bench.specs.Translating.{answered, tooShort, translated, translatedInto}
 use Rattle.bench.specs.Answers.{ranAs, refusedAs}
 use Rattle.bench.specs.Running.{checkedAs, bigBudget, smallRoom, runFaults, runRefusal, refusalIndex, ran, ranInto}
-use Rattle.bench.specs.Following.{lineActs, linesCourse, textCourse, followed, followedInto}
+use Rattle.bench.specs.Following.{lineActs, linesTrace, textTrace, linesCourse, textCourse, followed, followedInto}
 use Rattle.bench.specs.Calls.{Translates, Checks, Runs}
 use Rattle.bench.specs.declared.Translated.{Translated}
 use Rattle.bench.specs.declared.Checked.{Checked}
@@ -97,7 +97,13 @@ module _ (s script : List ℕ) (budget : ℕ) (buffer : List ℕ) (good : checke
   unfolding ran ranInto
   run-accepted = rw none-refused refl
 
--- An accepted text and its image go one course.
+-- Beside demand 3, over the definitions: an accepted text and its image take the same turns, step for step, within any budget. Each turn has the same number,
+-- the same machine before it and once its events have acted, the same effect and the same outcome; so both go by the same places, and end for the same reason.
+pub one-trace : (text script : List ℕ) (budget : ℕ) → accepted text ≡ true → imageTrace (image text) script budget ≡ textTrace text script budget
+unfolding imageTrace cellActs textTrace linesTrace lineActs
+one-trace text script budget ok = same-steps text ok budget (events script)
+
+-- So they go one course.
 pub one-course : (text script : List ℕ) (budget : ℕ) → accepted text ≡ true → imageCourse (image text) script budget ≡ textCourse text script budget
 unfolding imageCourse cellActs textCourse linesCourse lineActs
 one-course text script budget ok = same-course text ok budget (events script)

@@ -2,7 +2,7 @@
 -- Assumes nothing.
 use mathlib.Core.Path.{_≡_, refl, sym, ap, _∙_}
 use mathlib.Core.Bool.{true, false}
-use mathlib.Core.List.{List, [], _∷_, _++_}
+use mathlib.Core.List.{List, [], _∷_, _++_, flatMap}
 use Prim.Native.Nat.{ℕ, _+_, _-_, _≤_}
 use native.Mathlib.Omega.{arith}
 use lib.ListN.{length, take, drop, getD, set, replicate}
@@ -113,7 +113,7 @@ empty-image-for-all translate check run empty d =
 
 -- And by demand 3 with our own run, at the feeder: the empty image runs for no turn, the text for 13.
 no-turns : ourRun (image []) twoArrivals 20 (fresh 240) .answer .turns ≡ 0
-unfolding Answers.ranAs Courses.imageCourse Courses.cellActs Layout.cellCount Layout.trailerPlace B.field B.number R.runFrom Turn.startMachine
+unfolding Answers.ranAs Courses.imageCourse Courses.cellActs Layout.cellCount Layout.trailerPlace B.field B.number R.traceOn R.finally R.courseOf Turn.startMachine
 no-turns =
     ap (λ (o : Outcome). o .answer .turns)
     (run-accepted (image []) twoArrivals 20 (fresh 240) (image-checked [] empty-accepted) script-whole script-fine (omega arith) (omega arith))
@@ -186,11 +186,11 @@ writes-nothing translate check run nothing d =
 
 -- The feeder's first turn, by computation: one record, and the next cell is 1.
 one-turn-records : getD (over (imageCourse feederImage twoArrivals 1) (fresh 240)) 12 0 ≡ 170
-unfolding Bits.digits32 Bits.signed32 Bits.eachDigit Bits.on32 B.bytes B.number B.field Tests.eqZ Tests.listed Tests.allOf Tests.anyOf Cells.noTarget Cells.operatorNumber Cells.comparisonNumber Cells.operatorOf Cells.comparisonOf Cells.operandOf Cells.jumpOf Cells.valueOf Cells.conditionOf Cells.holdOf Cells.statementBy Cells.statementOf Variables.rangeOf Variables.startVariables Variables.allInputs Layout.operandNumber Layout.trailerPlace Layout.cellCount Layout.labelCount Layout.variableCount Layout.operandAt Layout.cellAt Layout.labelPlace Layout.variablePlace Layout.startValue Layout.startValues Layout.firstLabelPlace Effects.read Effects.storing Effects.storingResult Effects.moving Effects.value Effects.effect Events.eventAt Events.eventCount Events.events Events.happens Events.recordBytes R.reach R.runFrom Turn.noHandler Turn.startMachine Turn.keep Turn.lastPlace Turn.movingBit Turn.inMotion Turn.turn Courses.cellActs Courses.imageCourse R.over Answers.stateOf
+unfolding Bits.digits32 Bits.signed32 Bits.eachDigit Bits.on32 B.bytes B.number B.field Tests.eqZ Tests.listed Tests.allOf Tests.anyOf Cells.noTarget Cells.operatorNumber Cells.comparisonNumber Cells.operatorOf Cells.comparisonOf Cells.operandOf Cells.jumpOf Cells.valueOf Cells.conditionOf Cells.holdOf Cells.statementBy Cells.statementOf Variables.rangeOf Variables.startVariables Variables.allInputs Layout.operandNumber Layout.trailerPlace Layout.cellCount Layout.labelCount Layout.variableCount Layout.operandAt Layout.cellAt Layout.labelPlace Layout.variablePlace Layout.startValue Layout.startValues Layout.firstLabelPlace Effects.read Effects.storing Effects.storingResult Effects.moving Effects.value Effects.effect Events.eventAt Events.eventCount Events.events Events.happens Events.recordBytes flatMap R.reachBy R.traceOn R.finally R.courseOf Turn.noHandler Turn.startMachine Turn.keep Turn.lastPlace Turn.movingBit Turn.inMotion Turn.turn Courses.cellActs Courses.imageCourse R.over Answers.stateOf
 one-turn-records = refl
 
 one-turn-next : stateOf (imageCourse feederImage twoArrivals 1 .machine) .next ≡ 1
-unfolding Bits.digits32 Bits.signed32 Bits.eachDigit Bits.on32 B.bytes B.number B.field Tests.eqZ Tests.listed Tests.allOf Tests.anyOf Cells.noTarget Cells.operatorNumber Cells.comparisonNumber Cells.operatorOf Cells.comparisonOf Cells.operandOf Cells.jumpOf Cells.valueOf Cells.conditionOf Cells.holdOf Cells.statementBy Cells.statementOf Variables.rangeOf Variables.startVariables Variables.allInputs Layout.operandNumber Layout.trailerPlace Layout.cellCount Layout.labelCount Layout.variableCount Layout.operandAt Layout.cellAt Layout.labelPlace Layout.variablePlace Layout.startValue Layout.startValues Layout.firstLabelPlace Effects.read Effects.storing Effects.storingResult Effects.moving Effects.value Effects.effect Events.eventAt Events.eventCount Events.events Events.happens Events.recordBytes R.reach R.runFrom Turn.noHandler Turn.startMachine Turn.keep Turn.lastPlace Turn.movingBit Turn.inMotion Turn.turn Courses.cellActs Courses.imageCourse R.over Answers.stateOf
+unfolding Bits.digits32 Bits.signed32 Bits.eachDigit Bits.on32 B.bytes B.number B.field Tests.eqZ Tests.listed Tests.allOf Tests.anyOf Cells.noTarget Cells.operatorNumber Cells.comparisonNumber Cells.operatorOf Cells.comparisonOf Cells.operandOf Cells.jumpOf Cells.valueOf Cells.conditionOf Cells.holdOf Cells.statementBy Cells.statementOf Variables.rangeOf Variables.startVariables Variables.allInputs Layout.operandNumber Layout.trailerPlace Layout.cellCount Layout.labelCount Layout.variableCount Layout.operandAt Layout.cellAt Layout.labelPlace Layout.variablePlace Layout.startValue Layout.startValues Layout.firstLabelPlace Effects.read Effects.storing Effects.storingResult Effects.moving Effects.value Effects.effect Events.eventAt Events.eventCount Events.events Events.happens Events.recordBytes flatMap R.reachBy R.traceOn R.finally R.courseOf Turn.noHandler Turn.startMachine Turn.keep Turn.lastPlace Turn.movingBit Turn.inMotion Turn.turn Courses.cellActs Courses.imageCourse R.over Answers.stateOf
 one-turn-next = refl
 
 -- A runner that takes the first turn and no other: the records of the first turn alone, with any answer; and the state after the first turn, with any records.

@@ -10,7 +10,7 @@ use Rattle.effects.specs.Effects.{effect}
 use Rattle.machine.specs.declared.Machine.{Machine}
 use Rattle.machine.specs.Turn.{startMachine}
 use Rattle.machine.specs.Events.{events}
-use Rattle.machine.specs.Run.{Course, runFrom, over}
+use Rattle.machine.specs.Run.{PlainTrace, Course, traceFrom, runFrom, over}
 use Rattle.bench.specs.Answers.{ranAs}
 use Rattle.bench.specs.declared.Ran.{Ran}
 
@@ -18,7 +18,13 @@ use Rattle.bench.specs.declared.Ran.{Ran}
 unfoldable pub lineActs : List Line → Machine → Effect
 lineActs text m = effect (placeOf text) (numberOf text) (m .variables) (m .places .kept) (m .hold) (lineAt text (m .next))
 
--- Turn 6, Text 9: the text's own run from its start.
+-- Turn 6, Text 9: the text's own run from its start, turn by turn, and how it went.
+unfoldable pub linesTrace : List Line → List ℕ → ℕ → PlainTrace
+linesTrace text script budget = traceFrom (lineActs text) (howMany makesCell text) budget 0 (events script) (startMachine (starts text))
+
+unfoldable pub textTrace : List ℕ → List ℕ → ℕ → PlainTrace
+textTrace text script budget = linesTrace (said text) script budget
+
 unfoldable pub linesCourse : List Line → List ℕ → ℕ → Course
 linesCourse text script budget = runFrom (lineActs text) (howMany makesCell text) budget 0 (events script) (startMachine (starts text))
 

@@ -74,14 +74,15 @@ pub fn state_of(machine: Machine) -> State
 {
     let variables = machine.variables;
     let places = machine.places;
+    let cells = places.cells;
     let motion = machine.motion;
     let number = motion_number(motion);
     let value = motion_value(motion);
     State {
         variables,
         next: machine.next,
-        places,
-        kept: machine.kept,
+        places: cells,
+        kept: places.kept,
         handler: machine.handler,
         hold: machine.hold,
         motion: number,
