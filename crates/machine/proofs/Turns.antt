@@ -1,11 +1,11 @@
 -- The machine and its variables: a store past the last variable; what the effect of a statement tells of the machine that it is applied to.
 -- Assumes nothing.
 use mathlib.Core.Path.{_≡_, refl, sym, ap, subst, _∙_}
-use mathlib.Core.Bool.{Bool, true, false, _&&_, and-eq-true-iff}
+use mathlib.Core.Bool.{Bool, true, false, cond, not, _&&_, and-eq-true-iff}
 use mathlib.Core.List.{List, [], _∷_}
 use Prim.Native.Nat.{ℕ, _-_, _≤_}
 use native.Mathlib.Omega.{arith}
-use borrow.Author.Tests.{ne-eqb, leb-true}
+use borrow.Author.Tests.{ne-eqb, leb-true, le-leb, lt-leb, ltb-true, ltb-false}
 use lib.Dec.{eqb, leb, ltb}
 use lib.IntN.{ℤ, pos}
 use lib.ListN.{length, set}
@@ -23,10 +23,10 @@ use Rattle.effects.proofs.Sound.{Sound, sound}
 use Rattle.machine.specs.declared.Machine.{Machine}
 use Rattle.machine.specs.declared.Control.{Control}
 use Rattle.machine.specs.declared.Motion.{Motion}
-use Rattle.machine.specs.declared.Settled.{Settled}
+use Rattle.machine.specs.declared.Record.{Record}
 use Rattle.machine.specs.declared.Turned.{Turned}
-use Rattle.machine.specs.Turn.{noHandler, stored, called, flagged, failed, turn}
-use Rattle.machine.specs.Code.{Acted, Ready, acts, moving, changed, joined, whole, turnBy}
+use Rattle.machine.specs.Turn.{noHandler, withHandler, onward, nothing, recorded, turned, stored, called, flagged, failed, turn}
+use Rattle.machine.specs.Code.{Acted, Ready, acts, moving, changed, joined, turnBy}
 
 -- A store past the last variable changes nothing.
 pub stored-out : (vars : List ℤ) (v : ℕ) (z : ℤ) → length vars ≡ 64 → 64 ≤ v → vars ≡ stored vars v z
@@ -37,7 +37,7 @@ stored-out vars v z l h = rw (ne-eqb v 10 (λ e. omega arith), set-out vars v z 
 pub output : (v : ℕ) → (leb 11 v && leb v 13) ≡ true → 11 ≤ v
 output v h = leb-true 11 v (and-eq-true-iff (leb 11 v) (leb v 13) .0 h .0)
 
--- An effect that leaves the variables as they are, by the tags of those that do.
+-- Effects by their tags: those that leave the variables as they are, those that only go on to the following cell, those that record nothing, those but an error.
 abbrev others : List ℕ
 others = 2 ∷ 3 ∷ 4 ∷ 5 ∷ 6 ∷ 7 ∷ 8 ∷ 9 ∷ 10 ∷ 13 ∷ []
 
@@ -58,10 +58,94 @@ unchanged (Moves target kind z) vars h = absurd (miss others 11 tt h)
 unchanged (Slews z) vars h = absurd (miss others 12 tt h)
 unchanged (Prints v z) vars h = refl
 
--- What a turn comes to, by what the effect turns out to be.
-module _ (c : Control) (cells : ℕ) {r : Settled} {does e : Effect} (q : does ≡ e) where
-  pub settled-by : ((vars : List ℤ) → whole (changed e vars) r ≡ turn cells e (joined vars c)) → (vars : List ℤ) → whole (changed does vars) r ≡ turn cells does (joined vars c)
-  settled-by f vars = rw q (f vars)
+abbrev going : List ℕ
+going = 1 ∷ 2 ∷ 13 ∷ []
+
+pub goes-onward : (does : Effect) (cells : ℕ) (vars : List ℤ) (c r : Control) → OneOf going (tagOf the-type does) → joined (changed does vars) r ≡ onward (joined (changed does vars) c)
+    → joined (changed does vars) r ≡ turn cells does (joined vars c) .machine
+unfolding changed turn
+goes-onward (Fails error) cells vars c r h e = absurd (miss going 0 tt h)
+goes-onward (Stores v z) cells vars c r h e = e
+goes-onward Passes cells vars c r h e = e
+goes-onward (Goes cell) cells vars c r h e = absurd (miss going 3 tt h)
+goes-onward (Calls cell) cells vars c r h e = absurd (miss going 4 tt h)
+goes-onward Returns cells vars c r h e = absurd (miss going 5 tt h)
+goes-onward Ends cells vars c r h e = absurd (miss going 6 tt h)
+goes-onward Stays cells vars c r h e = absurd (miss going 7 tt h)
+goes-onward (Holds turns) cells vars c r h e = absurd (miss going 8 tt h)
+goes-onward (Arms cell) cells vars c r h e = absurd (miss going 9 tt h)
+goes-onward Disarms cells vars c r h e = absurd (miss going 10 tt h)
+goes-onward (Moves target kind z) cells vars c r h e = absurd (miss going 11 tt h)
+goes-onward (Slews z) cells vars c r h e = absurd (miss going 12 tt h)
+goes-onward (Prints v z) cells vars c r h e = e
+
+abbrev silent : List ℕ
+silent = 2 ∷ 3 ∷ 4 ∷ 5 ∷ 6 ∷ 7 ∷ 8 ∷ 9 ∷ 10 ∷ []
+
+pub records-nothing : (does : Effect) (cells : ℕ) (m : Machine) → OneOf silent (tagOf the-type does) → nothing ≡ turn cells does m .wrote
+unfolding turn
+records-nothing (Fails error) cells m h = absurd (miss silent 0 tt h)
+records-nothing (Stores v z) cells m h = absurd (miss silent 1 tt h)
+records-nothing Passes cells m h = refl
+records-nothing (Goes cell) cells m h = refl
+records-nothing (Calls cell) cells m h = refl
+records-nothing Returns cells m h = refl
+records-nothing Ends cells m h = refl
+records-nothing Stays cells m h = refl
+records-nothing (Holds turns) cells m h = refl
+records-nothing (Arms cell) cells m h = refl
+records-nothing Disarms cells m h = refl
+records-nothing (Moves target kind z) cells m h = absurd (miss silent 11 tt h)
+records-nothing (Slews z) cells m h = absurd (miss silent 12 tt h)
+records-nothing (Prints v z) cells m h = absurd (miss silent 13 tt h)
+
+abbrev faultless : List ℕ
+faultless = 1 ∷ 2 ∷ 3 ∷ 4 ∷ 5 ∷ 6 ∷ 7 ∷ 8 ∷ 9 ∷ 10 ∷ 11 ∷ 12 ∷ 13 ∷ []
+
+pub runs-on : (does : Effect) (cells : ℕ) (m : Machine) → OneOf faultless (tagOf the-type does) → false ≡ turn cells does m .stops
+unfolding turn
+runs-on (Fails error) cells m h = absurd (miss faultless 0 tt h)
+runs-on (Stores v z) cells m h = refl
+runs-on Passes cells m h = refl
+runs-on (Goes cell) cells m h = refl
+runs-on (Calls cell) cells m h = refl
+runs-on Returns cells m h = refl
+runs-on Ends cells m h = refl
+runs-on Stays cells m h = refl
+runs-on (Holds turns) cells m h = refl
+runs-on (Arms cell) cells m h = refl
+runs-on Disarms cells m h = refl
+runs-on (Moves target kind z) cells m h = refl
+runs-on (Slews z) cells m h = refl
+runs-on (Prints v z) cells m h = refl
+
+-- What comes of an effect, by what it turns out to be.
+module _ (c : Control) (cells : ℕ) {r : Control} {does e : Effect} (q : does ≡ e) where
+  pub after-by : ((vars : List ℤ) → joined (changed e vars) r ≡ turn cells e (joined vars c) .machine) → (vars : List ℤ) → joined (changed does vars) r ≡ turn cells does (joined vars c) .machine
+  after-by f vars = rw q (f vars)
+
+-- Turn 23, Turn 25: an error's record, and when it stops the run.
+pub error-recorded : (error : ℕ) (m : Machine) → recorded 6 0 (pos error) ≡ failed error m .wrote
+unfolding failed
+error-recorded error m = of-turned (eqb (m .handler) noHandler) (ltb (m .places .kept) 8)
+  where
+    of-turned : (a b : Bool) → recorded 6 0 (pos error)
+        ≡ cond a (turned (onward (flagged error m)) (recorded 6 0 (pos error)))
+        (cond b (turned (called (m .handler) (withHandler noHandler (flagged error m))) (recorded 6 0 (pos error))) (record { machine = flagged error m; wrote = recorded 6 0 (pos error); stops = true })) .wrote
+    of-turned true b = refl
+    of-turned false true = refl
+    of-turned false false = refl
+
+pub error-stops : (error : ℕ) (m : Machine) → (not (eqb (m .handler) noHandler) && leb 8 (m .places .kept)) ≡ failed error m .stops
+unfolding failed
+error-stops error m = by-places (eqb (m .handler) noHandler) (ltb (m .places .kept) 8) refl
+  where
+    by-places : (a b : Bool) → ltb (m .places .kept) 8 ≡ b → (not a && leb 8 (m .places .kept))
+        ≡ cond a (turned (onward (flagged error m)) (recorded 6 0 (pos error)))
+        (cond b (turned (called (m .handler) (withHandler noHandler (flagged error m))) (recorded 6 0 (pos error))) (record { machine = flagged error m; wrote = recorded 6 0 (pos error); stops = true })) .stops
+    by-places true b e = refl
+    by-places false true e = lt-leb 8 (m .places .kept) (ltb-true (m .places .kept) 8 e)
+    by-places false false e = le-leb 8 (m .places .kept) (ltb-false (m .places .kept) 8 e)
 
 -- A call finds a place free, and a return one that is kept.
 pub ready : (vars : List ℤ) (kept hold : ℕ) (s : Statement ℕ) {does : Effect} → does ≡ effect same same vars kept hold s → Ready kept does
@@ -70,14 +154,18 @@ ready vars kept hold s {does} p =
     record { calls = λ cell q. subst (λ (x : Effect). Sound vars kept x) q known; returns = λ q. subst (λ (x : Effect). Sound vars kept x) q known }
 
 -- A turn: the events have acted, and the effect of the statement comes to the variables and to all else.
-pub turned-by : (s : List ℕ) (first last cells : ℕ) (cell : Cell) (m : Machine) (ctl : Control) {vars vars′ : List ℤ} {motion : Motion} {does : Effect} {r : Settled} {d : Turned}
+pub turned-by : (s : List ℕ) (first last cells : ℕ) (cell : Cell) (m : Machine) (ctl : Control) {vars vars′ : List ℤ} {motion : Motion} {does : Effect} {c : Control} {w : Record} {stops : Bool} {m′ : Machine}
     → Acted s first last (m .variables) (m .motion) vars motion → does ≡ effect same same vars (m .places .kept) (m .hold) (statementOf cell) → vars′ ≡ changed does vars
     → joined vars ctl ≡ moving vars motion m
-    → ((vs : List ℤ) → whole (changed does vs) r ≡ turn cells does (joined vs ctl)) → d ≡ whole vars′ r
-    → d ≡ turnBy cells cell (acts s first (last - first) m)
+    → ((vs : List ℤ) → joined (changed does vs) c ≡ turn cells does (joined vs ctl) .machine) → m′ ≡ joined vars′ c
+    → ((n : ℕ) (x : Machine) → w ≡ turn n does x .wrote) → ((n : ℕ) (vs : List ℤ) → stops ≡ turn n does (joined vs ctl) .stops)
+    → record { machine = m′; wrote = w; stops = stops } ≡ turnBy cells cell (acts s first (last - first) m)
 unfolding turnBy
-turned-by s first last cells cell m ctl {vars} a ed ev ej es eq =
-    rw (← a .each m, ← ed) (eq ∙ rw ev (es vars ∙ rw ej))
+turned-by s first last cells cell m ctl {vars} {does = does} a ed ev ej ec em ew es =
+    rw (← a .each m, ← ed, ← ej) (same-parts (em ∙ rw ev (ec vars)) (ew cells (joined vars ctl)) (es cells vars))
+  where
+    same-parts : {m′ : Machine} {w : Record} {b : Bool} {t : Turned} → m′ ≡ t .machine → w ≡ t .wrote → b ≡ t .stops → record { machine = m′; wrote = w; stops = b } ≡ t
+    same-parts p q r = rw (p, q, r)
 
 -- Turn 23: an error changes ER and EF, and no other variable.
 module _ (m : Machine) (error : ℕ) where

@@ -2,19 +2,19 @@
 ghost use mathlib.Core.Path.{_≡_};
 ghost use mathlib.Core.Bool.{false};
 ghost use mathlib.Core.List.{List};
-ghost use Prim.Native.Nat.{_-_, _≤_, _<_};
+ghost use Prim.Native.Nat.{ℕ, _-_, _≤_, _<_};
 ghost use lib.IntN.{ℤ, pos};
 ghost use lib.ListN.{length, set};
 ghost use Rattle.effects.specs.declared.Effect.the-variants.{Fails};
-ghost use Rattle.machine.specs.Turn.{at, withHandler, onward, nothing, recorded, turned, stored, storeRecord, movingBit, inMotion, slew, called, returned, held, failed, turn};
+ghost use Rattle.machine.specs.declared.Machine.{Machine};
+ghost use Rattle.machine.specs.Turn.{at, withHandler, onward, nothing, stored, storeRecord, movingBit, inMotion, slew, called, returned, held, failed, turn};
 ghost use Rattle.machine.specs.Events.{badEvents, eventCount};
-ghost use Rattle.machine.specs.Code.{Inputs, Ready, acts, changed, joined, whole, turnBy};
+ghost use Rattle.machine.specs.Code.{Inputs, Ready, acts, changed, joined, turnBy};
 use crate::Control;
 use crate::Machine;
 use crate::Motion;
 use crate::Places;
 use crate::Record;
-use crate::Settled;
 use crate::Turned;
 use crate::calls::keep;
 use crate::calls::last_place;
@@ -58,6 +58,40 @@ impl Record {
             };
         }
         Record::nothing()
+    }
+
+    // What a turn with this effect records.
+    fn of(does: Effect) -> Record
+        ensures { λ r. ⌜ ((cells : ℕ) → (m : Machine) → r ≡ turn cells does m .wrote) ⌝ }
+    {
+        match does {
+            Effect::Fails(error) => Record {
+                kind: Record::FAILED,
+                number: 0,
+                value: error as i32,
+            },
+            Effect::Stores(v, value) => Record::stored(v, value),
+            Effect::Moves {
+                target,
+                kind,
+                value,
+            } => Record {
+                kind: kind,
+                number: 0,
+                value: value,
+            },
+            Effect::Slews(velocity) => Record {
+                kind: Record::SLEWS,
+                number: 0,
+                value: velocity,
+            },
+            Effect::Prints(v, value) => Record {
+                kind: Record::PRINTED,
+                number: v,
+                value: value,
+            },
+            _ => Record::nothing(),
+        }
     }
 }
 
@@ -181,69 +215,40 @@ impl Control {
         self
     }
 
-    // The turn ends on this cell.
-    fn at(mut self, cell: u16) -> Settled
-        ensures { λ r. ⌜ ((vars : List ℤ) → whole vars r ≡ turned (at cell (joined vars self)) nothing) ⌝ }
+    // The machine is at this cell.
+    fn at(mut self, cell: u16) -> Control
+        ensures { λ r. ⌜ ((vars : List ℤ) → joined vars r ≡ at cell (joined vars self)) ⌝ }
     {
         self.next = cell;
-        self.here()
+        self
     }
 
-    // The turn ends where the machine stands.
-    fn here(self) -> Settled
-        ensures { λ r. ⌜ ((vars : List ℤ) → whole vars r ≡ turned (joined vars self) nothing) ⌝ }
-    {
-        Settled {
-            control: self,
-            wrote: Record::nothing(),
-            stops: false,
-        }
-    }
-
-    // The turn ends on the following cell, with a record.
-    fn onward(mut self, wrote: Record) -> Settled
+    // The machine is at the following cell.
+    fn onward(self) -> Control
         requires { ⌜ self .next < 65535 ⌝ }
-        ensures { λ r. ⌜ ((vars : List ℤ) → whole vars r ≡ turned (onward (joined vars self)) wrote) ⌝ }
+        ensures { λ r. ⌜ ((vars : List ℤ) → joined vars r ≡ onward (joined vars self)) ⌝ }
     {
-        self.next = self.next + 1;
-        Settled {
-            control: self,
-            wrote: wrote,
-            stops: false,
-        }
+        self.at(self.next + 1)
     }
 
-    // An error: on at the following cell, or to the handler, or with no place free for that the run stops.
-    fn failed(self, error: u8) -> Settled
+    // An error: on to the next cell, or to the handler; with no place free for that the run stops, and all stays.
+    fn failed(self) -> Control
         requires { ⌜ self .next < 65535 ⌝ }
-        ensures { λ r. ⌜ ((vars : List ℤ) → whole (changed (Fails error) vars) r ≡ failed error (joined vars self)) ⌝ }
+        ensures { λ r. ⌜ ((error : ℕ) → (vars : List ℤ) → joined (changed (Fails error) vars) r ≡ failed error (joined vars self) .machine) ⌝ }
     {
-        let wrote = Record {
-            kind: Record::FAILED,
-            number: 0,
-            value: error as i32,
-        };
         if self.handler == Machine::NO_HANDLER {
-            return self.onward(wrote);
+            return self.onward();
         }
         if self.places.kept < Places::MOST {
-            return Settled {
-                control: self.with_handler(Machine::NO_HANDLER).called(self.handler),
-                wrote: wrote,
-                stops: false,
-            };
+            return self.with_handler(Machine::NO_HANDLER).called(self.handler);
         }
-        Settled {
-            control: self,
-            wrote: wrote,
-            stops: true,
-        }
+        self
     }
 
-    // The axis moves, by a statement of this kind and value.
-    fn moved(self, motion: Motion, kind: u8, value: i32) -> Settled
+    // The axis moves.
+    fn moved(self, motion: Motion) -> Control
         requires { ⌜ self .next < 65535 ⌝ }
-        ensures { λ r. ⌜ ((vars : List ℤ) → whole (set vars 14 (movingBit motion)) r ≡ turned (onward (inMotion motion (joined vars self))) (recorded kind 0 value)) ⌝ }
+        ensures { λ r. ⌜ ((vars : List ℤ) → joined (set vars 14 (movingBit motion)) r ≡ onward (inMotion motion (joined vars self))) ⌝ }
     {
         let places = self.places;
         Control {
@@ -252,42 +257,58 @@ impl Control {
             handler: self.handler,
             hold: self.hold,
             motion: motion,
-        }.onward(Record {
-            kind: kind,
-            number: 0,
-            value: value,
-        })
+        }.onward()
     }
 
     // What an effect comes to besides the variables, in a program with so many cells.
-    fn settled(self, does: Effect, cells: u16) -> Settled
+    fn after(self, does: Effect, cells: u16) -> Control
         requires { ⌜ (self .next < 65535) × Ready (self .places .kept) does ⌝ }
-        ensures { λ r. ⌜ ((vars : List ℤ) → whole (changed does vars) r ≡ turn cells does (joined vars self)) ⌝ }
+        ensures { λ r. ⌜ ((vars : List ℤ) → joined (changed does vars) r ≡ turn cells does (joined vars self) .machine) ⌝ }
     {
         match does {
-            Effect::Fails(error) => self.failed(error),
-            Effect::Stores(v, value) => self.onward(Record::stored(v, value)),
-            Effect::Passes => self.onward(Record::nothing()),
+            Effect::Fails(_) => self.failed(),
             Effect::Goes(place) => self.at(place),
-            Effect::Calls(place) => self.called(place).here(),
-            Effect::Returns => self.returned().here(),
+            Effect::Calls(place) => self.called(place),
+            Effect::Returns => self.returned(),
             Effect::Ends => self.at(cells),
-            Effect::Stays => self.here(),
-            Effect::Holds(turns) => self.held(turns).here(),
-            Effect::Arms(handler) => self.with_handler(handler).onward(Record::nothing()),
-            Effect::Disarms => self.with_handler(Machine::NO_HANDLER)
-                .onward(Record::nothing()),
+            Effect::Stays => self,
+            Effect::Holds(turns) => self.held(turns),
+            Effect::Arms(handler) => self.with_handler(handler).onward(),
+            Effect::Disarms => self.with_handler(Machine::NO_HANDLER).onward(),
             Effect::Moves {
                 target,
                 kind,
                 value,
-            } => self.moved(Motion::To(target), kind, value),
-            Effect::Slews(velocity) => self.moved(Motion::slew(velocity), Record::SLEWS, velocity),
-            Effect::Prints(v, value) => self.onward(Record {
-                kind: Record::PRINTED,
-                number: v,
-                value: value,
-            }),
+            } => self.moved(Motion::To(target)),
+            Effect::Slews(velocity) => self.moved(Motion::slew(velocity)),
+            _ => self.onward(),
+        }
+    }
+
+    // Whether the run stops: an error finds no place free for the call of the handler.
+    fn stops(self, does: Effect) -> bool
+        ensures { λ r. ⌜ ((cells : ℕ) → (vars : List ℤ) → r ≡ turn cells does (joined vars self) .stops) ⌝ }
+    {
+        match does {
+            Effect::Fails(_) => (self.handler != Machine::NO_HANDLER)
+                & (Places::MOST <= self.places.kept),
+            _ => false,
+        }
+    }
+
+    // With the variables.
+    fn joined(self, variables: [i32; 64]) -> Machine
+        ensures { λ r. ⌜ r ≡ joined variables self ⌝ }
+    {
+        let places = self.places;
+        let motion = self.motion;
+        Machine {
+            variables: variables,
+            next: self.next,
+            places: places,
+            handler: self.handler,
+            hold: self.hold,
+            motion: motion,
         }
     }
 }
@@ -306,42 +327,22 @@ impl Machine {
         ensures { λ r. ⌜ r ≡ turnBy cells cell (acts (now (events .entry)) first (last - first) self) ⌝ }
     {
         let mut variables = self.variables;
-        let before = self.motion;
         let places = self.places;
-        let motion = reach(&mut variables, before, events, first, last);
+        let motion = self.motion;
+        let motion = reach(&mut variables, motion, events, first, last);
         let does = effect(cell, &variables, self.places.kept, self.hold);
         change(&mut variables, does);
-        let settled = Control {
+        let before = Control {
             next: self.next,
             places: places,
             handler: self.handler,
             hold: self.hold,
             motion: motion,
-        }.settled(does, cells);
-        settled.turned(variables)
-    }
-}
-
-impl Settled {
-    // With the variables.
-    fn turned(self, variables: [i32; 64]) -> Turned
-        ensures { λ r. ⌜ r ≡ whole variables self ⌝ }
-    {
-        let control = self.control;
-        let places = control.places;
-        let motion = control.motion;
-        let wrote = self.wrote;
+        };
         Turned {
-            machine: Machine {
-                variables: variables,
-                next: control.next,
-                places: places,
-                handler: control.handler,
-                hold: control.hold,
-                motion: motion,
-            },
-            wrote: wrote,
-            stops: self.stops,
+            machine: before.after(does, cells).joined(variables),
+            wrote: Record::of(does),
+            stops: before.stops(does),
         }
     }
 }

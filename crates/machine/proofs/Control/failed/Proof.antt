@@ -2,61 +2,37 @@
 -- Assumes nothing.
 use mathlib.Core.Path.{_≡_, ap, _∙_}
 use mathlib.Core.List.{[]}
+use borrow.Author.Tests.{eq-eqb, ne-eqb, lt-ltb, le-ltb}
 use Rattle.effects.specs.declared.Effect.the-variants.{Fails}
 use Rattle.machine.specs.declared.Machine.{Machine}
-use Rattle.machine.specs.Turn.{called, recorded, turned}
-use lib.IntN.{pos}
-use borrow.Author.Tests.{eq-eqb, ne-eqb, lt-ltb, le-ltb}
-use Rattle.machine.specs.Turn.{noHandler, failed, flagged}
+use Rattle.machine.specs.Turn.{noHandler, called, flagged, failed}
 use Rattle.machine.specs.Code.{changed}
-use Rattle.machine.proofs.Kit.{byte-up}
 use borrow.Author.Needs.{needs}
 use Rattle.machine.proofs.Control.failed.Statement.{statement}
 use Rattle.machine.proofs.Control.failed.Tie as tie
-
-cast-t4 : tie.Need-cast-t4
-cast-t4 c = search needs
 
 onward-requires : tie.Need-onward-requires
 onward-requires c κs = search needs
 
 returns : tie.Need-returns
 unfolding failed flagged changed noHandler
-returns c =
-    λ vars.
-    let st = c .before .before .before in
-    simp (eq-eqb _ _ (c .before .if1 .taken)) (simp (byte-up (st .fits .error)) at (c .onward .ensures (changed (Fails (st .args .error)) vars)))
+returns c = λ error vars. simp (eq-eqb _ _ (c .before .if1 .taken)) (c .onward .ensures (changed (Fails error) vars))
 
 with-handler-requires : tie.Need-with-handler-requires
 with-handler-requires c κs = search needs
 
 called-requires : tie.Need-called-requires
-called-requires c κs =
-    let w = c .with-handler .ensures [] in
-    (rw (ap (λ (m : Machine). m .next) w) (c .before .before .before .before .before .pre), rw (ap (λ (m : Machine). m .places .kept) w) (c .before .if2 .taken))
+called-requires c κs = let w = c .with-handler .ensures [] in (rw (ap (λ (m : Machine). m .next) w) (c .before .before .before .before .before .pre), rw (ap (λ (m : Machine). m .places .kept) w) (c .before .if2 .taken))
 
 returns-2 : tie.Need-returns-2
 unfolding failed flagged changed noHandler
-returns-2 c =
-    λ vars.
-    let st = c .before .before .before .before .before .before in
-    let v = changed (Fails (st .args .error)) vars in
-    simp (ne-eqb _ _ (c .before .before .before .before .if1 .left), lt-ltb _ _ (c .before .before .if2 .taken), byte-up (st .fits .error))
-    (ap (λ (m : Machine). turned m (recorded 6 0 (pos (st .args .error)))) (c .called .ensures v ∙ ap (called (st .args .self .handler)) (c .before .with-handler .ensures v)))
+returns-2 c = λ error vars. let v = changed (Fails error) vars in simp (ne-eqb _ _ (c .before .before .before .before .if1 .left), lt-ltb _ _ (c .before .before .if2 .taken)) (c .called .ensures v ∙ ap (called _) (c .before .with-handler .ensures v))
 
 returns-3 : tie.Need-returns-3
 unfolding failed flagged changed noHandler
-returns-3 c =
-    λ vars. simp (ne-eqb _ _ (c .before .before .if1 .left), le-ltb _ _ (c .if2 .left), byte-up (c .before .before .before .before .fits .error))
+returns-3 c = λ error vars. simp (ne-eqb _ _ (c .before .before .if1 .left), le-ltb _ _ (c .if2 .left))
 
 pub failed-spec : {M : Type 1} → statement M
 failed-spec =
     tie.close
-    (tie.spec
-    cast-t4
-    onward-requires
-    returns
-    with-handler-requires
-    called-requires
-    returns-2
-    returns-3)
+    (tie.spec onward-requires returns with-handler-requires called-requires returns-2 returns-3)

@@ -1,7 +1,6 @@
 -- `Control::moved` meets its contract: by what `onward` ensures.
 -- Assumes nothing.
 use lib.ListN.{set}
-use Rattle.numbers.proofs.Kit.{back32}
 use Rattle.machine.specs.Turn.{inMotion, movingBit}
 use borrow.Author.Needs.{needs}
 use Rattle.machine.proofs.Control.moved.Statement.{statement}
@@ -12,7 +11,7 @@ onward-requires c κs = search needs
 
 returns : tie.Need-returns
 unfolding inMotion
-returns c = λ vars. simp (back32 (c .before .before .fits .value)) at (c .onward .ensures (set vars 14 (movingBit (c .before .before .args .motion))))
+returns c = λ vars. c .onward .ensures (set vars 14 (movingBit (c .before .before .args .motion)))
 
 pub moved-spec : {M : Type 1} → statement M
 moved-spec = tie.close (tie.spec onward-requires returns)

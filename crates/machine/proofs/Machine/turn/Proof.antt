@@ -2,8 +2,8 @@
 -- Assumes nothing.
 use mathlib.Core.Path.{_≡_, refl, sym, _∙_}
 use lib.ListN.{length}
-use borrow.Author.Needs.{needs}
 use Rattle.machine.proofs.Turns.{ready, turned-by}
+use borrow.Author.Needs.{needs}
 use Rattle.machine.proofs.Machine.turn.Statement.{statement}
 use Rattle.machine.proofs.Machine.turn.Tie as tie
 
@@ -11,33 +11,34 @@ reach-requires : tie.Need-reach-requires
 reach-requires c κs = search needs
 
 slice-aggregate-effect : tie.Need-slice-aggregate-effect
-slice-aggregate-effect c =
-    let n : length (c .before .before .before .before .before .before .args .self .variables) ≡ 64 = search needs in
-    sym (c .before .reach .ensures .size ∙ n)
+slice-aggregate-effect c = let n : length (c .before .before .before .before .before .before .args .self .variables) ≡ 64 = search needs in sym (c .before .reach .ensures .size ∙ n)
 
 effect-requires : tie.Need-effect-requires
 effect-requires c κs = search needs
 
 change-requires : tie.Need-change-requires
-change-requires c κs =
-    let n : length (c .before .before .before .before .before .before .before .before .args .self .variables) ≡ 64 = search needs in
-    c .before .before .before .reach .ensures .size ∙ n
+change-requires c κs = let n : length (c .before .before .before .before .before .before .before .before .args .self .variables) ≡ 64 = search needs in c .before .before .before .reach .ensures .size ∙ n
 
-settled-requires : tie.Need-settled-requires
-settled-requires c κs =
-    let st = c .before .before .before .before .before .before .before .before .before in
-    (st .pre .0, ready _ (st .args .self .places .kept) (st .args .self .hold) _ (c .before .before .effect .ensures))
+after-requires : tie.Need-after-requires
+after-requires c κs = let st = c .before .before .before .before .before .before .before .before .before in (st .pre .0, ready _ (st .args .self .places .kept) (st .args .self .hold) _ (c .before .before .effect .ensures))
 
-turned-requires : tie.Need-turned-requires
-turned-requires c κs = search needs
+joined-requires : tie.Need-joined-requires
+joined-requires c κs = search needs
+
+of-requires : tie.Need-of-requires
+of-requires c κs = search needs
+
+stops-requires : tie.Need-stops-requires
+stops-requires c κs = search needs
 
 returns : tie.Need-returns
-returns c =
-    let ch = c .before .before in
+returns c = 
+    let j = c .before .before in
+    let ch = j .before .before in
     let ef = ch .before .before in
     let re = ef .before .before in
     let st = re .before .before .before .before .before in
-    turned-by _ _ _ _ _ (st .args .self) _ (re .reach .ensures) (ef .effect .ensures) (ch .change .ensures) refl (c .before .settled .ensures) (c .turned .ensures)
+    turned-by _ _ _ _ _ (st .args .self) _ (re .reach .ensures) (ef .effect .ensures) (ch .change .ensures) refl (j .before .after .ensures) (j .joined .ensures) (c .before .of .ensures) (c .stops .ensures)
 
 pub turn-spec : {M : Type 1} → statement M
 turn-spec =
@@ -47,6 +48,8 @@ turn-spec =
     slice-aggregate-effect
     effect-requires
     change-requires
-    settled-requires
-    turned-requires
+    after-requires
+    joined-requires
+    of-requires
+    stops-requires
     returns)

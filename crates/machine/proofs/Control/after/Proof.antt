@@ -1,0 +1,177 @@
+-- `Control::after` meets its contract: each arm by what the effect is.
+-- Assumes nothing.
+use mathlib.Core.Path.{_≡_, refl, ap, _∙_}
+use mathlib.Core.List.{[]}
+use mir.Val.{toZ, ofZ}
+use mir.Syntax.{w32}
+use Rattle.machine.specs.declared.Machine.{Machine}
+use Rattle.machine.specs.Turn.{noHandler, onward, turn}
+use Rattle.machine.specs.Code.{changed}
+use Rattle.machine.proofs.Turns.{after-by, goes-onward}
+use borrow.Author.Needs.{needs}
+use Rattle.machine.proofs.Control.after.Statement.{statement}
+use Rattle.machine.proofs.Control.after.Tie as tie
+
+enum-told : tie.Need-enum-told
+enum-told c = search needs
+
+failed-requires : tie.Need-failed-requires
+failed-requires c κs = search needs
+
+enum-known-does : tie.Need-enum-known-does
+enum-known-does c = search needs
+
+at-requires : tie.Need-at-requires
+at-requires c κs = search needs
+
+enum-known-does-2 : tie.Need-enum-known-does-2
+enum-known-does-2 c = search needs
+
+called-requires : tie.Need-called-requires
+called-requires c κs = (c .before .before .before .pre .0, c .before .before .before .pre .1 .calls _ (c .before .does2 .given .1))
+
+enum-told-2 : tie.Need-enum-told-2
+enum-told-2 c = search needs
+
+returned-requires : tie.Need-returned-requires
+returned-requires c κs = c .before .before .pre .1 .returns (c .enum-told2 .given .1)
+
+enum-told-3 : tie.Need-enum-told-3
+enum-told-3 c = search needs
+
+at-requires-2 : tie.Need-at-requires-2
+at-requires-2 c κs = search needs
+
+enum-told-4 : tie.Need-enum-told-4
+enum-told-4 c = search needs
+
+enum-known-does-3 : tie.Need-enum-known-does-3
+enum-known-does-3 c = search needs
+
+held-requires : tie.Need-held-requires
+held-requires c κs = search needs
+
+enum-known-does-4 : tie.Need-enum-known-does-4
+enum-known-does-4 c = search needs
+
+with-handler-requires : tie.Need-with-handler-requires
+with-handler-requires c κs = search needs
+
+onward-requires : tie.Need-onward-requires
+onward-requires c κs = rw (ap (λ (m : Machine). m .next) (c .with-handler .ensures [])) (c .before .before .before .before .pre .0)
+
+enum-told-5 : tie.Need-enum-told-5
+enum-told-5 c = search needs
+
+with-handler-requires-2 : tie.Need-with-handler-requires-2
+with-handler-requires-2 c κs = search needs
+
+onward-requires-2 : tie.Need-onward-requires-2
+onward-requires-2 c κs = rw (ap (λ (m : Machine). m .next) (c .with-handler2 .ensures [])) (c .before .before .before .pre .0)
+
+enum-known-does-5 : tie.Need-enum-known-does-5
+enum-known-does-5 c = search needs
+
+moved-requires : tie.Need-moved-requires
+moved-requires c κs = search needs
+
+enum-known-does-6 : tie.Need-enum-known-does-6
+enum-known-does-6 c = search needs
+
+slew-requires : tie.Need-slew-requires
+slew-requires c κs = search needs
+
+moved-requires-2 : tie.Need-moved-requires-2
+moved-requires-2 c κs = search needs
+
+onward-requires-3 : tie.Need-onward-requires-3
+onward-requires-3 c κs = search needs
+
+returns : tie.Need-returns
+unfolding turn
+returns c = after-by _ _ (c .before .enum-told .given .1) (c .failed .ensures _)
+
+returns-2 : tie.Need-returns-2
+unfolding turn changed
+returns-2 c = after-by _ _ (c .before .before .does .given .1) (c .at .ensures)
+
+returns-3 : tie.Need-returns-3
+unfolding turn changed
+returns-3 c = after-by _ _ (c .before .before .does2 .given .1) (c .called .ensures)
+
+returns-4 : tie.Need-returns-4
+unfolding turn changed
+returns-4 c = after-by _ _ (c .before .enum-told2 .given .1) (c .returned .ensures)
+
+returns-5 : tie.Need-returns-5
+unfolding turn changed
+returns-5 c = after-by _ _ (c .before .enum-told3 .given .1) (c .at2 .ensures)
+
+returns-6 : tie.Need-returns-6
+unfolding turn changed
+returns-6 c = after-by _ _ (c .enum-told4 .given .1) (λ vars. refl)
+
+returns-7 : tie.Need-returns-7
+unfolding turn changed
+returns-7 c = after-by _ _ (c .before .before .does3 .given .1) (c .held .ensures)
+
+returns-8 : tie.Need-returns-8
+unfolding turn changed
+returns-8 c = after-by _ _ (c .before .before .before .does4 .given .1) (λ vars. c .onward .ensures vars ∙ ap (λ (m : Machine). onward m) (c .before .with-handler .ensures vars))
+
+returns-9 : tie.Need-returns-9
+unfolding turn changed noHandler
+returns-9 c = after-by _ _ (c .before .before .enum-told5 .given .1) (λ vars. c .onward2 .ensures vars ∙ ap (λ (m : Machine). onward m) (c .before .with-handler2 .ensures vars))
+
+returns-10 : tie.Need-returns-10
+unfolding turn changed
+returns-10 c = let d = c .before .before .does5 .given in let x′ : toZ w32 (ofZ w32 (d .0 .0)) ≡ d .0 .0 = search needs in after-by _ _ (d .1) (λ vars. simp x′ at (c .moved .ensures vars))
+
+returns-11 : tie.Need-returns-11
+unfolding turn changed
+returns-11 c = let d = c .before .before .before .does6 .given in let z′ : toZ w32 (ofZ w32 (d .0 .0)) ≡ d .0 .0 = search needs in after-by _ _ (d .1) (λ vars. simp (c .before .slew .ensures, z′) at (c .moved2 .ensures vars))
+
+returns-12 : tie.Need-returns-12
+returns-12 c = λ vars. goes-onward (c .before .before .args .does) _ vars _ _ (c .before .match .keys12) (c .onward3 .ensures (changed _ vars))
+
+pub after-spec : {M : Type 1} → statement M
+after-spec =
+    tie.close
+    (tie.spec
+    enum-told
+    failed-requires
+    enum-known-does
+    at-requires
+    enum-known-does-2
+    called-requires
+    enum-told-2
+    returned-requires
+    enum-told-3
+    at-requires-2
+    enum-told-4
+    enum-known-does-3
+    held-requires
+    enum-known-does-4
+    with-handler-requires
+    onward-requires
+    enum-told-5
+    with-handler-requires-2
+    onward-requires-2
+    enum-known-does-5
+    moved-requires
+    enum-known-does-6
+    slew-requires
+    moved-requires-2
+    onward-requires-3
+    returns
+    returns-2
+    returns-3
+    returns-4
+    returns-5
+    returns-6
+    returns-7
+    returns-8
+    returns-9
+    returns-10
+    returns-11
+    returns-12)
