@@ -13,7 +13,7 @@ use Rattle.image.specs.Layout.{cellCount, cellAt, startValues}
 use Rattle.effects.specs.declared.Effect.{Effect}
 use Rattle.effects.specs.Effects.{effect}
 use Rattle.machine.specs.declared.Machine.{Machine}
-use Rattle.machine.specs.declared.Event.{Event}
+use Rattle.events.specs.declared.Event.{Event}
 use Rattle.machine.specs.Turn.{startMachine}
 use Rattle.machine.specs.Run.{plain, courseOf, placesOf, traceFrom, runFrom, visitsFrom}
 use Rattle.machine.proofs.Quiet.{happens-next}

@@ -12,8 +12,8 @@ use Rattle.numbers.specs.Tests.{eqList}
 use Rattle.program.specs.Names.{Name, twoCharacters, userName}
 use Rattle.text.specs.Tokens.{Token}
 use Rattle.text.specs.Forms.{Slot, Is, New, Target, Written, Left, Right, Start, Operating, Comparing, Parts, naming, writing, operating, comparing, Taken, took, put, word, sign, takes, operatorMeant, comparisonMeant, variableName}
-use Rattle.machine.specs.Events.{eventAt, eventCount, badEvent, badEvents, goodEvent}
-use Rattle.machine.proofs.Scripts.{none-below}
+use Rattle.events.specs.Events.{eventAt, eventCount, badEvent, badEvents, goodEvent}
+use Rattle.events.proofs.Scripts.{none-below}
 
 -- Events 2: in a script without a bad event turns never fall.
 right-none : (a b : Bool) → (a || b) ≡ false → b ≡ false

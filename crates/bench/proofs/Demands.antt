@@ -14,11 +14,11 @@ use Rattle.numbers.specs.Tests.{lowest, Lowest, NoRow}
 use Rattle.text.specs.declared.Fault.{Fault}
 use Rattle.text.specs.Faults.{overlong, fault, firstFault}
 use Rattle.image.specs.Check.{badLength, badEdition, badTrailer, badCells, badRecords, imageFaults, checked}
-use Rattle.machine.specs.Events.{badScript, badEvent, badEvents, firstBadEvent, eventCount, events}
+use Rattle.events.specs.Events.{badScript, badEvent, badEvents, firstBadEvent, eventCount, events}
 use Rattle.machine.specs.Run.{Course, over}
 use Rattle.running.specs.Courses.{cellActs, imageTrace, imageCourse}
 use Rattle.translation.specs.Images.{image, accepted}
-use Rattle.machine.proofs.Scripts.{bad-events}
+use Rattle.events.proofs.Scripts.{bad-events}
 use Rattle.refusals.proofs.Lowest.{lowest-range, lowest-exactly, lowest-zero, first-exactly}
 use Rattle.refusals.proofs.First.{first-exactly-at, first-none, Given, first-given}
 use Rattle.listing.specs.Listing.{listing}

@@ -17,7 +17,7 @@ use Rattle.image.specs.Check.{checked}
 use Rattle.image.specs.Layout as Layout
 use Rattle.effects.specs.Effects as Effects
 use Rattle.machine.specs.Events as Events
-use Rattle.machine.specs.Events.{badScript, badEvents}
+use Rattle.events.specs.Events.{badScript, badEvents}
 use Rattle.machine.specs.Run as R
 use Rattle.machine.specs.Turn as Turn
 use Rattle.running.specs.Courses as Courses

@@ -11,9 +11,9 @@ use Rattle.numbers.specs.Tests.{allOf}
 use Rattle.image.specs.Layout.{cellCount, startValues}
 use Rattle.text.specs.Faults.{said, howMany, makesCell}
 use Rattle.translation.specs.Places.{starts}
-use Rattle.machine.specs.declared.Event.{Event}
+use Rattle.events.specs.declared.Event.{Event}
 use Rattle.machine.specs.Turn.{startMachine}
-use Rattle.machine.specs.Events.{eventCount, events, badScript}
+use Rattle.events.specs.Events.{eventCount, events, badScript}
 use Rattle.running.specs.Courses.{cellActs, imageCourse}
 use Rattle.rules.proofs.Scripts.{later-bytes-unused}
 use Rattle.listing.proofs.Kit as K

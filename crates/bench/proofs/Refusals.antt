@@ -10,8 +10,8 @@ use lib.Dec.{eqb}
 use lib.ListN.{length}
 use Rattle.numbers.specs.Tests.{lowest}
 use Rattle.image.specs.Check.{checked, imageFaults, badLength, badEdition, badTrailer, badCells, badRecords}
-use Rattle.machine.specs.Events.{badScript, badEvents, firstBadEvent, eventCount}
-use Rattle.machine.proofs.Scripts.{bad-events}
+use Rattle.events.specs.Events.{badScript, badEvents, firstBadEvent, eventCount}
+use Rattle.events.proofs.Scripts.{bad-events}
 use Rattle.running.specs.declared.Ended.{Ended}
 use Rattle.running.specs.Courses.{imageCourse}
 use Rattle.running.specs.Code.{EndedAs}

@@ -24,8 +24,8 @@ use Rattle.machine.specs.declared.Machine.{Machine}
 use Rattle.machine.specs.declared.Motion.{Motion}
 use Rattle.machine.specs.declared.Motion.the-variants.{Still, To, Slewing}
 use Rattle.machine.specs.Turn.{startMachine}
-use Rattle.machine.specs.Events.{badEvents, goodEvent, eventAt, eventCount, events}
-use Rattle.machine.proofs.Scripts.{good-events}
+use Rattle.events.specs.Events.{badEvents, goodEvent, eventAt, eventCount, events}
+use Rattle.events.proofs.Scripts.{good-events}
 use Rattle.running.specs.Courses.{cellActs, imageCourse}
 use Rattle.rules.specs.Rules.{Ruled}
 use Rattle.rules.specs.Good.{isHold, writable, Good, Acts}

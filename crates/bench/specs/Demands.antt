@@ -9,7 +9,7 @@ use lib.ListN.{length, take, drop, getD}
 use Rattle.numbers.specs.Tests.{Lowest, NoRow}
 use Rattle.text.specs.Faults.{overlong, faultsOf}
 use Rattle.image.specs.Check.{imageFaults}
-use Rattle.machine.specs.Events.{badScript, badEvent, badEvents, eventCount}
+use Rattle.events.specs.Events.{badScript, badEvent, badEvents, eventCount}
 use Rattle.machine.specs.Run.{over}
 use Rattle.running.specs.Courses.{imageCourse}
 use Rattle.translation.specs.Images.{image, accepted}

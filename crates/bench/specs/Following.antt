@@ -9,7 +9,7 @@ use Rattle.effects.specs.declared.Effect.{Effect}
 use Rattle.effects.specs.Effects.{effect}
 use Rattle.machine.specs.declared.Machine.{Machine}
 use Rattle.machine.specs.Turn.{startMachine}
-use Rattle.machine.specs.Events.{events}
+use Rattle.events.specs.Events.{events}
 use Rattle.machine.specs.Run.{PlainTrace, Course, traceFrom, runFrom, over}
 use Rattle.bench.specs.Answers.{ranAs}
 use Rattle.bench.specs.declared.Ran.{Ran}

@@ -7,7 +7,7 @@ use lib.Dec.{eqb, ltb}
 use lib.ListN.{length}
 use Rattle.numbers.specs.Tests.{lowest}
 use Rattle.image.specs.Check.{checked}
-use Rattle.machine.specs.Events.{badScript, badEvents, firstBadEvent}
+use Rattle.events.specs.Events.{badScript, badEvents, firstBadEvent}
 use Rattle.machine.specs.Run.{over}
 use Rattle.running.specs.Courses.{imageCourse}
 use Rattle.bench.specs.declared.Checked.{Checked}

@@ -83,11 +83,11 @@ pub fn run(image: &[u8], events: &[u8], budget: u64, records: &mut [u8]) -> Ran
     if number != 0 {
         return answers::refused(number, 0);
     }
-    if machine::events::is_bad_script(events) {
+    if events::script::is_bad_script(events) {
         return answers::refused(answers::BAD_SCRIPT, 0);
     }
-    let bad = machine::events::first_bad_event(events);
-    if bad < machine::events::event_count(events) {
+    let bad = events::script::first_bad_event(events);
+    if bad < events::script::event_count(events) {
         return answers::refused(answers::BAD_EVENT, bad);
     }
     if answers::MOST_TURNS < budget {

@@ -6,9 +6,9 @@ use mathlib.Core.List.{List}
 use Prim.Native.Nat.{ℕ, suc, _<_}
 use Rattle.effects.specs.declared.Effect.{Effect}
 use Rattle.machine.specs.declared.Machine.{Machine}
-use Rattle.machine.specs.declared.Event.{Event}
+use Rattle.events.specs.declared.Event.{Event}
 use Rattle.machine.specs.Turn.{turn}
-use Rattle.machine.specs.Events.{recordBytes}
+use Rattle.events.specs.Events.{recordBytes}
 use Rattle.machine.specs.Run.{PlainTrace, Course, ends, plain, courseOf, reach, traceFrom, runFrom}
 use Rattle.machine.proofs.Traces.{ended, after, course-ends, course-before, trace-turn, step}
 

@@ -21,9 +21,10 @@ use Rattle.effects.proofs.Sound.{Sound, sound}
 use Rattle.machine.specs.declared.Machine.{Machine}
 use Rattle.machine.specs.declared.Motion.{Motion}
 use Rattle.machine.specs.declared.Motion.the-variants.{Still, To, Slewing}
-use Rattle.machine.specs.declared.Event.{Event}
+use Rattle.events.specs.declared.Event.{Event}
 use Rattle.machine.specs.Turn.{withVariables, startMachine, stored, movingBit, inMotion, slew, called, returned, held, turn}
-use Rattle.machine.specs.Events.{input, arrivedBy, happens, goodEvent}
+use Rattle.events.specs.Events.{goodEvent}
+use Rattle.machine.specs.Happens.{input, arrivedBy, happens}
 use Rattle.machine.specs.Code.{Bit, Inputs, moving, Arrived, Happened}
 use Rattle.machine.proofs.Turns.{failed-variables}
 use Rattle.machine.proofs.Quiet.{of-three}

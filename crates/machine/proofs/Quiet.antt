@@ -7,9 +7,9 @@ use lib.Dec.{eqb}
 use Rattle.machine.specs.declared.Machine.{Machine}
 use Rattle.machine.specs.declared.Motion.{Motion}
 use Rattle.machine.specs.declared.Motion.the-variants.{Still, To, Slewing}
-use Rattle.machine.specs.declared.Event.{Event}
+use Rattle.events.specs.declared.Event.{Event}
 use Rattle.machine.specs.Turn.{inMotion}
-use Rattle.machine.specs.Events.{happens, arrivedBy}
+use Rattle.machine.specs.Happens.{happens, arrivedBy}
 
 -- What holds of each of three machines holds of the one that is chosen.
 pub of-three : (P : Machine → Type 0) (a b : Bool) {x y z : Machine} → P x → P y → P z → P (cond a x (cond b y z))

@@ -11,7 +11,7 @@ use lib.Dec.{T, eqb, leb, leb→le}
 use lib.ListN.{length}
 use Rattle.numbers.specs.Tests.{allOf}
 use Rattle.program.proofs.Keys.{both}
-use Rattle.machine.specs.declared.Event.{Event}
+use Rattle.events.specs.declared.Event.{Event}
 use Rattle.machine.specs.Run.{Bench, Step, Trace, ends, before, ReachedOf, reachBy, traceOn, CourseOf, finally, courseOf}
 
 -- How a run went that took no turn, and one that took another turn first, with these records.

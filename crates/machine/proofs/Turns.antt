@@ -23,7 +23,7 @@ use Rattle.effects.proofs.Sound.{Sound, sound}
 use Rattle.machine.specs.declared.Machine.{Machine}
 use Rattle.machine.specs.declared.Control.{Control}
 use Rattle.machine.specs.declared.Motion.{Motion}
-use Rattle.machine.specs.declared.Record.{Record}
+use Rattle.events.specs.declared.Record.{Record}
 use Rattle.machine.specs.declared.Turned.{Turned}
 use Rattle.machine.specs.Turn.{noHandler, withHandler, onward, nothing, recorded, turned, stored, called, flagged, failed, turn}
 use Rattle.machine.specs.Code.{Acted, Ready, acts, moving, changed, joined, turnBy}

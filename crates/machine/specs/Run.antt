@@ -8,9 +8,10 @@ use lib.ListN.{length, drop}
 use Rattle.effects.specs.declared.Effect.{Effect}
 use Rattle.machine.specs.declared.Machine.{Machine}
 use Rattle.machine.specs.declared.Turned.{Turned}
-use Rattle.machine.specs.declared.Event.{Event}
+use Rattle.events.specs.declared.Event.{Event}
 use Rattle.machine.specs.Turn.{turn}
-use Rattle.machine.specs.Events.{happens, recordBytes}
+use Rattle.events.specs.Events.{recordBytes}
+use Rattle.machine.specs.Happens.{happens}
 
 -- What a run asks of a bench: M is its machines, D what a statement does, C what a turn comes to.
 pub record Bench (M D C : Type 0) : Type 0 where

@@ -6,94 +6,23 @@ ghost use Prim.Native.Nat.{ℕ, _-_, _≤_, _<_};
 ghost use lib.IntN.{ℤ, pos};
 ghost use lib.ListN.{length, set};
 ghost use Rattle.effects.specs.declared.Effect.the-variants.{Fails};
-ghost use Rattle.machine.specs.declared.Machine.{Machine};
-ghost use Rattle.machine.specs.Turn.{at, withHandler, onward, nothing, stored, storeRecord, movingBit, inMotion, slew, called, returned, held, failed, turn};
-ghost use Rattle.machine.specs.Events.{badEvents, eventCount};
+ghost use Rattle.machine.specs.Turn.{at, withHandler, onward, stored, movingBit, inMotion, slew, called, returned, held, failed, turn};
+ghost use Rattle.events.specs.Events.{badEvents, eventCount};
 ghost use Rattle.machine.specs.Code.{Inputs, Ready, acts, changed, joined, turnBy};
 use crate::Control;
 use crate::Machine;
 use crate::Motion;
 use crate::Places;
-use crate::Record;
 use crate::Turned;
 use crate::calls::keep;
 use crate::calls::last_place;
 use crate::calls::release;
-use crate::events::reach;
+use crate::happening::reach;
+use crate::recording::recorded;
 use effects::Effect;
 use effects::doing::effect;
 use program::Cell;
 use program::Variable;
-
-impl Record {
-    // The kinds: an output was written, the axis slews, a value was printed, an error came. Those of a move come with its effect.
-    pub const OUTPUT: u8 = 1;
-
-    pub const SLEWS: u8 = 4;
-
-    pub const PRINTED: u8 = 5;
-
-    pub const FAILED: u8 = 6;
-
-    // What a turn that records nothing has for a record.
-    fn nothing() -> Record
-        ensures { λ r. ⌜ r ≡ nothing ⌝ }
-    {
-        Record {
-            kind: 0,
-            number: 0,
-            value: 0,
-        }
-    }
-
-    // A store to an output is recorded by the output's number.
-    fn stored(v: u32, value: i32) -> Record
-        ensures { λ r. ⌜ r ≡ storeRecord v value ⌝ }
-    {
-        if (Variable::O1 <= v) & (v <= Variable::O3) {
-            return Record {
-                kind: Record::OUTPUT,
-                number: v - Variable::O1 + 1,
-                value: value,
-            };
-        }
-        Record::nothing()
-    }
-
-    // What a turn with this effect records.
-    fn of(does: Effect) -> Record
-        ensures { λ r. ⌜ ((cells : ℕ) → (m : Machine) → r ≡ turn cells does m .wrote) ⌝ }
-    {
-        match does {
-            Effect::Fails(error) => Record {
-                kind: Record::FAILED,
-                number: 0,
-                value: error as i32,
-            },
-            Effect::Stores(v, value) => Record::stored(v, value),
-            Effect::Moves {
-                target,
-                kind,
-                value,
-            } => Record {
-                kind: kind,
-                number: 0,
-                value: value,
-            },
-            Effect::Slews(velocity) => Record {
-                kind: Record::SLEWS,
-                number: 0,
-                value: velocity,
-            },
-            Effect::Prints(v, value) => Record {
-                kind: Record::PRINTED,
-                number: v,
-                value: value,
-            },
-            _ => Record::nothing(),
-        }
-    }
-}
 
 impl Motion {
     // At velocity 0 the axis is still.
@@ -341,7 +270,7 @@ impl Machine {
         };
         Turned {
             machine: before.after(does, cells).joined(variables),
-            wrote: Record::of(does),
+            wrote: recorded(does),
             stops: before.stops(does),
         }
     }

@@ -87,10 +87,10 @@ pub fn start_values(image: &[u8]) -> [i32; 64] {
 // The records of a run at the front of a buffer.
 pub fn records_of<'a>(buffer: &'a [u8; 65536], ran: Ran) -> &'a [u8] {
     let records = ran.records;
-    if machine::Event::MOST < records {
+    if events::Event::MOST < records {
         return given::of_buffer(buffer, 0);
     }
-    given::of_buffer(buffer, machine::events::SIZE * records)
+    given::of_buffer(buffer, events::script::SIZE * records)
 }
 
 // Writes a file, unless it is the one that was read: then that would be lost.

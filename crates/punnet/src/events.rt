@@ -21,7 +21,7 @@ fn keep(to: &[u8], source: &[u8], bytes: &[u8]) -> u8 {
     if !commands::keep(to, source, bytes) {
         return TROUBLE;
     }
-    let count = machine::events::event_count(bytes) as u64;
+    let count = events::script::event_count(bytes) as u64;
     let mut page = telling::page();
     let mut held = commands::put_path(&mut page, to);
     held = telling::part_number(&mut page, held, words::EVENTS, count);

@@ -15,9 +15,9 @@ use Rattle.effects.specs.Effects.{read}
 use Rattle.machine.specs.declared.Machine.{Machine}
 use Rattle.machine.specs.declared.Places.{Places}
 use Rattle.machine.specs.declared.Turned.{Turned}
-use Rattle.machine.specs.declared.Event.{Event}
+use Rattle.events.specs.declared.Event.{Event}
 use Rattle.machine.specs.Turn.{noHandler, turned, onward, withHandler, recorded, keep, called, flagged, failed, turn}
-use Rattle.machine.specs.Events.{recordBytes}
+use Rattle.events.specs.Events.{recordBytes}
 use Rattle.machine.specs.Run.{reach, runFrom}
 use Rattle.machine.proofs.Traces.{ended, after}
 use Rattle.machine.proofs.Courses.{one-statement}

@@ -13,11 +13,12 @@ use Rattle.numbers.specs.Tests.{allOf, anyBelow, between, eqZ, listed}
 use Rattle.program.specs.Variables.{inRange, literals, rangeOf}
 use Rattle.program.proofs.Keys.{both, both-of, either}
 use Rattle.machine.specs.declared.Machine.{Machine}
-use Rattle.machine.specs.declared.Event.{Event}
+use Rattle.events.specs.declared.Event.{Event}
 use Rattle.machine.specs.declared.Motion.{Motion}
 use Rattle.machine.specs.declared.Motion.the-variants.{Still, To, Slewing}
 use Rattle.machine.specs.Turn.{withVariables, inMotion}
-use Rattle.machine.specs.Events.{arrivedBy, happens, goodEvent, badEvent, badEvents, eventAt, eventCount, events}
+use Rattle.events.specs.Events.{goodEvent, badEvent, badEvents, eventAt, eventCount, events}
+use Rattle.machine.specs.Happens.{arrivedBy, happens}
 use Rattle.machine.specs.Run.{Reached, reach}
 use Rattle.rules.specs.Rules.{Ruled, goodMotion}
 use Rattle.rules.proofs.Values.{chosen, if-same}

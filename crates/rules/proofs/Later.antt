@@ -8,7 +8,7 @@ use lib.Dec.{T, leb}
 use Rattle.numbers.specs.Tests.{allOf}
 use Rattle.effects.specs.declared.Effect.{Effect}
 use Rattle.machine.specs.declared.Machine.{Machine}
-use Rattle.machine.specs.declared.Event.{Event}
+use Rattle.events.specs.declared.Event.{Event}
 use Rattle.machine.specs.Run.{plain, courseOf, runFrom}
 use Rattle.machine.proofs.Traces.{few-turns, trace-later}
 

@@ -20,11 +20,12 @@ use Rattle.effects.specs.Effects.{read, storing, storingResult, operate, zeroDi
 use Rattle.machine.specs.declared.Machine.{Machine}
 use Rattle.machine.specs.declared.Motion.{Motion}
 use Rattle.machine.specs.declared.Motion.the-variants.{Still, To, Slewing}
-use Rattle.machine.specs.declared.Record.{Record}
+use Rattle.events.specs.declared.Record.{Record}
 use Rattle.machine.specs.declared.Turned.{Turned}
-use Rattle.machine.specs.declared.Event.{Event}
+use Rattle.events.specs.declared.Event.{Event}
 use Rattle.machine.specs.Turn.{stored, inMotion, movingBit, slew, called, returned, held, turn}
-use Rattle.machine.specs.Events.{input, arrivedBy, happens, goodEvent, recordBytes}
+use Rattle.events.specs.Events.{goodEvent, recordBytes}
+use Rattle.machine.specs.Happens.{input, arrivedBy, happens}
 use Rattle.machine.specs.Run.{Step, Course, plain, courseOf, traceFrom, runFrom}
 use Rattle.machine.proofs.Traces.{few-turns}
 use Rattle.rules.specs.Rules.{Ruled}

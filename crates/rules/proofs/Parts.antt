@@ -20,7 +20,7 @@ use Rattle.machine.specs.declared.Machine.{Machine}
 use Rattle.machine.specs.declared.Places.{Places}
 use Rattle.machine.specs.declared.Motion.{Motion}
 use Rattle.machine.specs.declared.Motion.the-variants.{Still, To, Slewing}
-use Rattle.machine.specs.Events.{input}
+use Rattle.machine.specs.Happens.{input}
 use Rattle.machine.specs.Turn.{noHandler, machine, movingBit, keep, release}
 use Rattle.rules.specs.Rules.{Ruled, goodMotion}
 use Rattle.rules.proofs.Values.{Values, errorNumber, mayHold, values-set, read-same, read-other, inputs-other, if-same}

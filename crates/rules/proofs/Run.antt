@@ -8,9 +8,9 @@ use lib.Dec.{T}
 use Rattle.numbers.specs.Tests.{allOf}
 use Rattle.effects.specs.declared.Effect.{Effect}
 use Rattle.machine.specs.declared.Machine.{Machine}
-use Rattle.machine.specs.declared.Event.{Event}
+use Rattle.events.specs.declared.Event.{Event}
 use Rattle.machine.specs.Turn.{turn}
-use Rattle.machine.specs.Events.{goodEvent}
+use Rattle.events.specs.Events.{goodEvent}
 use Rattle.machine.specs.Run.{plain, courseOf, runFrom}
 use Rattle.machine.proofs.Quiet.{happens-next}
 use Rattle.machine.proofs.Traces.{run-keeps}

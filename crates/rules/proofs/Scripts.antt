@@ -12,8 +12,8 @@ use Rattle.numbers.specs.Bytes.{field}
 use Rattle.numbers.specs.Tests.{allOf, listed}
 use Rattle.effects.specs.declared.Effect.{Effect}
 use Rattle.machine.specs.declared.Machine.{Machine}
-use Rattle.machine.specs.declared.Event.{Event}
-use Rattle.machine.specs.Events.{eventAt, eventCount, events}
+use Rattle.events.specs.declared.Event.{Event}
+use Rattle.events.specs.Events.{eventAt, eventCount, events}
 use Rattle.machine.specs.Run.{runFrom}
 use Rattle.rules.proofs.Later.{later-unused}
 

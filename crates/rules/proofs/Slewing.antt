@@ -14,9 +14,9 @@ use Rattle.effects.specs.Effects.{read}
 use Rattle.machine.specs.declared.Machine.{Machine}
 use Rattle.machine.specs.declared.Motion.{Motion}
 use Rattle.machine.specs.declared.Motion.the-variants.{Still, To, Slewing}
-use Rattle.machine.specs.declared.Event.{Event}
+use Rattle.events.specs.declared.Event.{Event}
 use Rattle.machine.specs.Turn.{startMachine, movingBit, inMotion, slew, called, returned, held, turn}
-use Rattle.machine.specs.Events.{arrivedBy, happens}
+use Rattle.machine.specs.Happens.{arrivedBy, happens}
 use Rattle.machine.specs.Run.{plain, courseOf, runFrom}
 use Rattle.machine.proofs.Quiet.{happens-next}
 use Rattle.machine.proofs.Traces.{all-events, run-keeps}

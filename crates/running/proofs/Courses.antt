@@ -13,11 +13,11 @@ use Rattle.image.specs.Layout.{cellCount, startValues}
 use Rattle.machine.specs.declared.Machine.{Machine}
 use Rattle.machine.specs.declared.Turned.{Turned}
 use Rattle.machine.specs.Turn.{startMachine}
-use Rattle.machine.specs.Events.{eventCount, recordBytes}
+use Rattle.events.specs.Events.{eventCount, recordBytes}
 use Rattle.machine.specs.Run.{PlainTrace, Course, plain, before, ends, courseOf, over}
 use Rattle.machine.specs.Code.{Inputs}
 use Rattle.machine.proofs.Inputs.{inputs-start}
-use Rattle.machine.proofs.Written.{record-most}
+use Rattle.events.proofs.Written.{record-most}
 use Rattle.machine.proofs.Traces.{ended, after, course-ends, course-before}
 use Rattle.running.specs.Courses.{imageCourse}
 use Rattle.running.specs.Code.{SteppedBy, courseFrom, EndedAs}

@@ -15,16 +15,17 @@ use lib.Seq.{take-all}
 use Rattle.numbers.specs.Tests.{listed}
 use Rattle.image.specs.Layout.{variableCount, startValue, startValues}
 use Rattle.machine.specs.declared.Machine.{Machine}
-use Rattle.machine.specs.declared.Event.{Event}
+use Rattle.events.specs.declared.Event.{Event}
 use Rattle.machine.specs.Turn.{withVariables, startMachine}
-use Rattle.machine.specs.Events.{eventAt, eventCount, events, happens, badScript, badEvents}
+use Rattle.events.specs.Events.{eventAt, eventCount, events, badScript, badEvents}
+use Rattle.machine.specs.Happens.{happens}
 use Rattle.machine.specs.Run.{Reached, plain, reachBy, reach}
 use Rattle.machine.specs.Code.{Inputs, acts}
 use Rattle.machine.proofs.Inputs.{inputs-happens}
-use Rattle.machine.proofs.Scripts.{good-events}
+use Rattle.events.proofs.Scripts.{good-events}
 use Rattle.machine.proofs.Quiet.{happens-next}
 use Rattle.machine.proofs.Traces.{next-reached}
-use Rattle.machine.proofs.Written.{start-more}
+use Rattle.machine.proofs.Starting.{start-more}
 use Rattle.running.specs.Code.{eventsFrom, DueBefore}
 
 -- How long a list is that has f at each number, and what stands in it.

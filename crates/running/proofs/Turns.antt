@@ -12,7 +12,7 @@ use Rattle.image.specs.Layout.{cellCount, cellAt}
 use Rattle.effects.specs.declared.Effect.{Effect}
 use Rattle.machine.specs.declared.Machine.{Machine}
 use Rattle.machine.specs.declared.Turned.{Turned}
-use Rattle.machine.specs.Events.{badEvents}
+use Rattle.events.specs.Events.{badEvents}
 use Rattle.machine.specs.Run.{Step, PlainTrace, ends, before, plain, reach, traceFrom}
 use Rattle.machine.specs.Code.{Inputs, acts, turnBy}
 use Rattle.machine.proofs.Inputs.{inputs-turn}

@@ -14,7 +14,7 @@ use Rattle.image.specs.Layout.{cellCount, startValues}
 use Rattle.machine.specs.declared.Machine.{Machine}
 use Rattle.machine.specs.declared.Turned.{Turned}
 use Rattle.machine.specs.Turn.{startMachine}
-use Rattle.machine.specs.Events.{eventCount}
+use Rattle.events.specs.Events.{eventCount}
 use Rattle.machine.specs.Run.{plain, placesOf}
 use Rattle.machine.specs.Code.{Inputs}
 use Rattle.machine.proofs.Inputs.{inputs-start}

@@ -7,9 +7,9 @@ use lib.ListN.{length}
 use Rattle.numbers.specs.Tests.{listed}
 use Rattle.image.specs.Layout.{cellCount}
 use Rattle.machine.specs.declared.Machine.{Machine}
-use Rattle.machine.specs.declared.Event.{Event}
+use Rattle.events.specs.declared.Event.{Event}
 use Rattle.machine.specs.declared.Turned.{Turned}
-use Rattle.machine.specs.Events.{eventAt, eventCount}
+use Rattle.events.specs.Events.{eventAt, eventCount}
 use Rattle.machine.specs.Turn.{turn}
 use Rattle.machine.specs.Run.{Course, reach, runFrom, over}
 use Rattle.machine.specs.Code.{Inputs}

@@ -8,7 +8,7 @@ use Rattle.effects.specs.declared.Effect.{Effect}
 use Rattle.effects.specs.Effects.{effect}
 use Rattle.machine.specs.declared.Machine.{Machine}
 use Rattle.machine.specs.Turn.{startMachine}
-use Rattle.machine.specs.Events.{events}
+use Rattle.events.specs.Events.{events}
 use Rattle.machine.specs.Run.{PlainTrace, Course, traceFrom, runFrom}
 
 -- Turn 7: what the statement at the machine's next cell does.

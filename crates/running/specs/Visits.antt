@@ -6,7 +6,7 @@ use lib.ListN.{length, drop}
 use Rattle.numbers.specs.Bytes.{bytes}
 use Rattle.image.specs.Layout.{cellCount, startValues}
 use Rattle.machine.specs.Turn.{startMachine}
-use Rattle.machine.specs.Events.{events}
+use Rattle.events.specs.Events.{events}
 use Rattle.machine.specs.Run.{visitsFrom}
 use Rattle.running.specs.Courses.{cellActs}
 

@@ -5,15 +5,15 @@ ghost use Prim.Native.Nat.{_*_, _-_, _≤_};
 ghost use lib.ListN.{length};
 ghost use Rattle.image.specs.Layout.{startValues};
 ghost use Rattle.machine.specs.Turn.{startMachine};
-ghost use Rattle.machine.specs.Events.{badScript, badEvents, eventCount};
+ghost use Rattle.events.specs.Events.{badScript, badEvents, eventCount};
 ghost use Rattle.machine.specs.Code.{Inputs};
 ghost use Rattle.running.specs.Courses.{imageCourse};
 ghost use Rattle.running.specs.Visits.{imageVisits};
 ghost use Rattle.running.specs.Code.{DueBefore, courseFrom, EndedAs, VisitedAs};
 use machine::Machine;
-use machine::events::event_count;
-use machine::events::whole_event;
-use machine::records::write_record;
+use events::script::event_count;
+use events::script::whole_event;
+use events::records::write_record;
 
 // How a run went: why it ended, after how many turns, with how many bytes of records, and in which state.
 pub struct Ended {

@@ -1,8 +1,8 @@
 // A run told turn by turn: the events, the statement with its line, and what it recorded.
 use crate::Page;
 use crate::state;
-use machine::Event;
-use machine::Record;
+use events::Event;
+use events::Record;
 
 // How far a run is told: the next turn, event and record, and what the page holds.
 struct Mark {
@@ -59,14 +59,14 @@ fn listed(bytes: &[u8], k: usize) -> usize {
 // A record or an event by its number; none has a number above the most.
 fn entry(bytes: &[u8], k: usize) -> Event {
     if Event::MOST < k {
-        return machine::events::event_at(bytes, Event::MOST);
+        return events::script::event_at(bytes, Event::MOST);
     }
-    machine::events::event_at(bytes, k)
+    events::script::event_at(bytes, k)
 }
 
 // The turn of the record or event with this number; past every turn where there is none.
 fn turn_of(bytes: &[u8], k: usize) -> usize {
-    if machine::events::event_count(bytes) <= k {
+    if events::script::event_count(bytes) <= k {
         return NO_TURN;
     }
     entry(bytes, k).turn as usize
@@ -293,7 +293,7 @@ fn put_header(page: &mut Page) -> usize {
 // Each record on a line of its own, with its turn.
 pub fn put_records(page: &mut Page, image: &[u8], records: &[u8]) -> usize {
     let mut held: usize = 0;
-    for k in 0..machine::events::event_count(records) {
+    for k in 0..events::script::event_count(records) {
         held = put_record_line(page, held, image, entry(records, k));
     }
     held

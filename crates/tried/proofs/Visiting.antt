@@ -8,8 +8,8 @@ use native.Mathlib.Omega.{arith}
 use borrow.Author.Tests.{lt-ltb, le-ltb, ltb-false, ne-eqb}
 use lib.Dec.{ltb}
 use lib.ListN.{length, take}
-use Rattle.machine.specs.Events.{events, badScript, badEvents, firstBadEvent, eventCount}
-use Rattle.machine.proofs.Scripts.{bad-events}
+use Rattle.events.specs.Events.{events, badScript, badEvents, firstBadEvent, eventCount}
+use Rattle.events.proofs.Scripts.{bad-events}
 use Rattle.running.specs.Courses.{cellActs}
 use Rattle.running.specs.Visits.{imageVisits, visitsOver}
 use Rattle.running.specs.Code.{VisitedAs}

@@ -10,7 +10,7 @@ use Rattle.text.specs.Forms.{Line}
 use Rattle.text.specs.Faults.{said, howMany, makesCell}
 use Rattle.translation.specs.Places.{starts}
 use Rattle.machine.specs.Turn.{startMachine}
-use Rattle.machine.specs.Events.{events, badScript, badEvents}
+use Rattle.events.specs.Events.{events, badScript, badEvents}
 use Rattle.machine.specs.Run.{visitsFrom}
 use Rattle.running.specs.Visits.{visitsOver}
 use Rattle.bench.specs.Translating.{translated, translatedInto}

@@ -4,9 +4,9 @@ ghost use Rattle.tried.specs.Trying.{Tries};
 ghost use Rattle.tried.specs.Visiting.{visitRefused, Visited};
 use bench::Ran;
 use bench::Translated;
-use machine::events::event_count;
-use machine::events::first_bad_event;
-use machine::events::is_bad_script;
+use events::script::event_count;
+use events::script::first_bad_event;
+use events::script::is_bad_script;
 
 // The answer to translating, and that to running the image; where the text is refused there is no image, and the run is refused too.
 pub struct Tried {

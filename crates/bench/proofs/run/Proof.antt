@@ -3,7 +3,7 @@ use mathlib.Core.Path.{_≡_, refl, sym, _∙_}
 use mathlib.Core.Bool.{false}
 use Prim.Native.Nat.{ℕ, _<_}
 use Rattle.image.specs.Check.{checked}
-use Rattle.machine.specs.Events.{badScript, badEvents, eventCount}
+use Rattle.events.specs.Events.{badScript, badEvents, eventCount}
 use Rattle.running.proofs.Scripts.{few-events}
 use Rattle.bench.proofs.Refusals.{refused-image, refused-script, refused-event, no-bad-event, refused-budget, refused-room, ran-as}
 use borrow.Author.Needs.{needs}

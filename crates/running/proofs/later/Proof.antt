@@ -5,8 +5,8 @@ use Prim.Native.Nat.{ℕ, _-_, _≤_, _<_}
 use native.Mathlib.Omega.{arith}
 use borrow.Author.Count.{below-more}
 use borrow.Author.Needs.{needs}
-use Rattle.machine.specs.declared.Event.{Event}
-use Rattle.machine.specs.Events.{eventAt}
+use Rattle.events.specs.declared.Event.{Event}
+use Rattle.events.specs.Events.{eventAt}
 use Rattle.running.proofs.Scripts.{due-before, due-all}
 use Rattle.running.proofs.later.Statement.{statement}
 use Rattle.running.proofs.later.Tie as tie

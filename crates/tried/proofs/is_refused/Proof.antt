@@ -3,7 +3,7 @@
 use mathlib.Core.Path.{_≡_, sym, _∙_}
 use mathlib.Core.Bool.{false}
 use borrow.Author.Needs.{needs}
-use Rattle.machine.specs.Events.{badScript}
+use Rattle.events.specs.Events.{badScript}
 use Rattle.running.proofs.Scripts.{few-events}
 use Rattle.tried.proofs.Visiting.{by-script, by-event, by-budget, by-room}
 use Rattle.tried.proofs.is_refused.Statement.{statement}

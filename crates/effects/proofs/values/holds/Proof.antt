@@ -4,7 +4,7 @@ use borrow.Author.Tests.{eq-eqb, ne-eqb}
 use borrow.Author.Needs.{needs}
 use Rattle.program.specs.Cells.{conditionOf}
 use Rattle.effects.specs.Effects.{holds}
-use Rattle.effects.proofs.Kit.{got32}
+use Rattle.program.proofs.Results.{got32}
 use Rattle.effects.proofs.values.holds.Statement.{statement}
 use Rattle.effects.proofs.values.holds.Tie as tie
 

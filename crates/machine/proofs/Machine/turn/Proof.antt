@@ -25,8 +25,8 @@ after-requires c κs = let st = c .before .before .before .before .before .befor
 joined-requires : tie.Need-joined-requires
 joined-requires c κs = search needs
 
-of-requires : tie.Need-of-requires
-of-requires c κs = search needs
+recorded-requires : tie.Need-recorded-requires
+recorded-requires c κs = search needs
 
 stops-requires : tie.Need-stops-requires
 stops-requires c κs = search needs
@@ -38,7 +38,7 @@ returns c =
     let ef = ch .before .before in
     let re = ef .before .before in
     let st = re .before .before .before .before .before in
-    turned-by _ _ _ _ _ (st .args .self) _ (re .reach .ensures) (ef .effect .ensures) (ch .change .ensures) refl (j .before .after .ensures) (j .joined .ensures) (c .before .of .ensures) (c .stops .ensures)
+    turned-by _ _ _ _ _ (st .args .self) _ (re .reach .ensures) (ef .effect .ensures) (ch .change .ensures) refl (j .before .after .ensures) (j .joined .ensures) (c .before .recorded .ensures) (c .stops .ensures)
 
 pub turn-spec : {M : Type 1} → statement M
 turn-spec =
@@ -50,6 +50,6 @@ turn-spec =
     change-requires
     after-requires
     joined-requires
-    of-requires
+    recorded-requires
     stops-requires
     returns)

@@ -1,6 +1,6 @@
 -- `set_moving` meets its contract: MV is set by the motion.
 -- Assumes nothing.
-use Rattle.effects.proofs.Kit.{got32}
+use Rattle.program.proofs.Results.{got32}
 use borrow.Author.Needs.{needs}
 use Rattle.machine.proofs.turn.set_moving.Statement.{statement}
 use Rattle.machine.proofs.turn.set_moving.Tie as tie

@@ -1,0 +1,48 @@
+-- `two` meets its contract: byte by byte.
+-- Assumes nothing.
+use native.Mathlib.Omega.{arith}
+use Rattle.events.proofs.Scripts.{two-bytes}
+use borrow.Author.Needs.{needs}
+use Rattle.events.proofs.script.two.Statement.{statement}
+use Rattle.events.proofs.script.two.Tie as tie
+
+shared-slice-read-wide : tie.Need-shared-slice-read-wide
+shared-slice-read-wide c = search needs
+
+wide-requires : tie.Need-wide-requires
+wide-requires c κs = search needs
+
+add-wide : tie.Need-add-wide
+add-wide c = search needs
+
+shared-slice-read-wide-2 : tie.Need-shared-slice-read-wide-2
+shared-slice-read-wide-2 c = search needs
+
+wide-requires-2 : tie.Need-wide-requires-2
+wide-requires-2 c κs = search needs
+
+mul-result : tie.Need-mul-result
+mul-result c = record { fits = omega arith }
+
+add-result : tie.Need-add-result
+add-result c = record { fits = omega arith }
+
+cast-result : tie.Need-cast-result
+cast-result c = record { fits = omega arith }
+
+returns : tie.Need-returns
+returns c = rw (c .before .before .wide .ensures .0, c .wide2 .ensures .0) (two-bytes _ _)
+
+pub two-spec : {M : Type 1} → statement M
+two-spec =
+    tie.close
+    (tie.spec
+    shared-slice-read-wide
+    wide-requires
+    add-wide
+    shared-slice-read-wide-2
+    wide-requires-2
+    mul-result
+    add-result
+    cast-result
+    returns)

@@ -1,0 +1,64 @@
+-- `whole_event` meets its contract: each field is read where specs/ has it, and its bytes are there.
+-- Assumes nothing.
+use native.Mathlib.Omega.{arith}
+use Rattle.program.proofs.Results.{got32}
+use Rattle.events.specs.Events.{eventAt}
+use Rattle.events.proofs.Scripts.{event-inside, one-byte}
+use borrow.Author.Needs.{needs}
+use Rattle.events.proofs.script.whole_event.Statement.{statement}
+use Rattle.events.proofs.script.whole_event.Tie as tie
+
+mul-at : tie.Need-mul-at
+mul-at c = search needs
+
+four-requires : tie.Need-four-requires
+four-requires c κs = let st = c .before in omega (arith, event-inside (st .args .s .now) (st .args .k) (st .pre .0))
+
+add-t5 : tie.Need-add-t5
+add-t5 c = search needs
+
+shared-slice-read-t7 : tie.Need-shared-slice-read-t7
+shared-slice-read-t7 c = let st = c .before .before .before in omega (arith, event-inside (st .args .s .now) (st .args .k) (st .pre .0))
+
+add-t8 : tie.Need-add-t8
+add-t8 c = search needs
+
+shared-slice-read-t10 : tie.Need-shared-slice-read-t10
+shared-slice-read-t10 c = let st = c .before .before .before .before in omega (arith, event-inside (st .args .s .now) (st .args .k) (st .pre .0))
+
+add-two : tie.Need-add-two
+add-two c = search needs
+
+two-requires : tie.Need-two-requires
+two-requires c κs = let st = c .before .before .before .before in omega (arith, event-inside (st .args .s .now) (st .args .k) (st .pre .0))
+
+add-four : tie.Need-add-four
+add-four c = search needs
+
+four-requires-2 : tie.Need-four-requires-2
+four-requires-2 c κs = let st = c .before .before .before .before .before in omega (arith, event-inside (st .args .s .now) (st .args .k) (st .pre .0))
+
+signed-requires : tie.Need-signed-requires
+signed-requires c κs = search needs
+
+returns : tie.Need-returns
+unfolding eventAt
+returns c =
+    simp (c .before .before .before .before .before .four .ensures, one-byte, c .before .before .two .ensures, got32 _ _ (c .signed .ok) (c .signed .ensures), c .before .four2 .ensures)
+
+pub whole-event-spec : {M : Type 1} → statement M
+whole-event-spec =
+    tie.close
+    (tie.spec
+    mul-at
+    four-requires
+    add-t5
+    shared-slice-read-t7
+    add-t8
+    shared-slice-read-t10
+    add-two
+    two-requires
+    add-four
+    four-requires-2
+    signed-requires
+    returns)
