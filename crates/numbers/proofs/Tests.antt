@@ -2,7 +2,7 @@
 -- Assumes nothing.
 use mathlib.Core.Path.{_≡_, refl, sym, ap, ap₂, subst, _∙_}
 use mathlib.Core.Bool.{Bool, true, false, cond, _||_, true≢false, or-true, or-assoc}
-use mathlib.Core.List.{List, [], _∷_, _++_}
+use mathlib.Core.List.{List, [], _∷_, _++_, map}
 use mathlib.Core.Logic.{_↔_, _⊎_, inl, inr, ⊎-elim}
 use Prim.Native.Nat.{ℕ, zero, suc, _+_, _≤_, _<_}
 use native.Mathlib.Omega.{arith}
@@ -27,6 +27,10 @@ module _ {A : Type 0} where
   pub each-both : (P Q : A → Type 0) (xs : List A) → Each P xs → Each Q xs → Each (λ x. P x × Q x) xs
   each-both P Q [] g h = tt
   each-both P Q (x ∷ xs) g h = ((g .0, h .0), each-both P Q xs (g .1) (h .1))
+
+pub each-map : {A B : Type 0} (f : A → B) (P : B → Type 0) (xs : List A) → Each (λ x. P (f x)) xs → Each P (map f xs)
+each-map f P [] h = tt
+each-map f P (x ∷ xs) h = (h .0, each-map f P xs (h .1))
 
 module _ {A : Type 0} (p : A → Bool) where
   -- The test holds of each, or of none, one by one.

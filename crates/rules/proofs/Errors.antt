@@ -9,6 +9,7 @@ use borrow.Author.Tests.{lt-leb, lt-ltb, le-ltb, eq-eqb, ne-eqb}
 use lib.Dec.{eqb, ltb}
 use lib.IntN.{ℤ, pos}
 use lib.ListN.{length, set, length-set}
+use Rattle.numbers.proofs.Truth.{chosen}
 use Rattle.effects.specs.declared.Effect.{Effect}
 use Rattle.effects.specs.declared.Effect.the-variants.{Fails}
 use Rattle.effects.specs.Effects.{read}
@@ -18,7 +19,7 @@ use Rattle.machine.specs.declared.Event.{Event}
 use Rattle.machine.specs.Turn.{noHandler, turned, onward, withHandler, recorded, keep, called, flagged, failed, turn}
 use Rattle.machine.specs.Events.{recordBytes}
 use Rattle.machine.specs.Run.{reach, runFrom, ended, after}
-use Rattle.rules.proofs.Values.{chosen, read-same, read-other}
+use Rattle.rules.proofs.Values.{read-same, read-other}
 
 -- A turn leaves this next cell, these places, so many of them kept, this handler; it stops the run or not.
 pub record Leaves (next : ℕ) (places : List ℕ) (kept handler : ℕ) (stops : Bool) (t : Turned) : Type 0 where

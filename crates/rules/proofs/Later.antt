@@ -8,14 +8,13 @@ use native.Mathlib.Omega.{arith}
 use borrow.Author.Tests.{ne-eqb}
 use lib.Dec.{T, eqb, leb, leb→le}
 use Rattle.numbers.specs.Tests.{allOf}
-use Rattle.program.proofs.Keys.{both}
+use Rattle.numbers.proofs.Truth.{both, chosen}
 use Rattle.effects.specs.declared.Effect.{Effect}
 use Rattle.machine.specs.declared.Machine.{Machine}
 use Rattle.machine.specs.declared.Event.{Event}
 use Rattle.machine.specs.Turn.{turn}
 use Rattle.machine.specs.Events.{happens, recordBytes}
 use Rattle.machine.specs.Run.{Course, Reached, reach, runFrom, after}
-use Rattle.rules.proofs.Values.{chosen}
 use Rattle.rules.proofs.Never.{run-bounded}
 
 -- Two choices by one test.

@@ -6,6 +6,7 @@ use mathlib.Core.List.{List}
 use Prim.Native.Nat.{ℕ, zero, suc, _<_}
 use lib.Dec.{T, leb, nleb→lt}
 use Rattle.numbers.specs.Tests.{allOf}
+use Rattle.numbers.proofs.Truth.{chosen}
 use Rattle.effects.specs.declared.Effect.{Effect}
 use Rattle.machine.specs.declared.Machine.{Machine}
 use Rattle.machine.specs.declared.Event.{Event}
@@ -14,7 +15,6 @@ use Rattle.machine.specs.Events.{goodEvent}
 use Rattle.machine.specs.Run.{Course, reach, runFrom}
 use Rattle.rules.specs.Rules.{Ruled}
 use Rattle.rules.specs.Good.{Acts}
-use Rattle.rules.proofs.Values.{chosen}
 use Rattle.rules.proofs.Events.{ruled-reach, good-left, next-reach}
 use Rattle.rules.proofs.Turn.{ruled-turn}
 
