@@ -1,19 +1,20 @@
 -- The cells of a text's image, read back: each is that of the line with as many cell lines before it.
 -- Assumes nothing.
 use mathlib.Core.Path.{_≡_, refl, sym, subst, ap, _∙_}
-use mathlib.Core.Bool.{Bool, true, false, _&&_, _||_, not}
+use mathlib.Core.Bool.{true, not, and-eq-true-iff}
 use mathlib.Core.List.{List, _∷_, _++_, append-assoc, flatMap}
-use Prim.Native.Nat.{ℕ, _+_, _*_, _≤_, _<_}
+use Prim.Native.Nat.{ℕ, _*_, _≤_, _<_}
 use native.Mathlib.Omega.{arith}
-use borrow.Author.Tests.{leb-true, ltb-true}
-use lib.Dec.{leb, ltb, lit<}
+use lib.Dec.{lit<}
 use lib.ListN.{length}
 use Rattle.numbers.proofs.Kit.{within32}
+use Rattle.numbers.proofs.Truth.{true-is}
 use Rattle.program.specs.Names.{Name}
 use Rattle.program.specs.Variables.{literals, present, readOnly}
 use Rattle.program.specs.Cells.{cell, cellOf, jumpOf, operandOf, noTarget}
 use Rattle.program.specs.Statements.{Value, Literal, Variable, Condition, Always, Compare, Statement, Set, SetWith, IC, DC, BR, CL, RT, E, H, Hold, OE, Disarm, MA, MR, SL, PR}
 use Rattle.program.specs.declared.Operand.the-variants as O
+use Rattle.program.proofs.Ranges.{by-present}
 use Rattle.program.proofs.Selectors.{operator-range, comparison-range}
 use Rattle.text.specs.Forms.{Line, Acts}
 use Rattle.text.specs.Faults.{howMany, makesCell, makesVariable, placeOf, numberOf}
@@ -23,26 +24,21 @@ use Rattle.image.proofs.Accepted.{Writes, Reads, Compares, Acceptable}
 use Rattle.translation.specs.Images.{cellPart, labelPart, variablePart, imageOf}
 use Rattle.translation.specs.Places.{lineAt}
 use Rattle.translation.proofs.Parts.{parts-length, cells-sized}
-use Rattle.agreement.proofs.Sound.{Fine, Good, good, both-true}
+use Rattle.agreement.proofs.Sound.{Fine, Good, good}
 use Rattle.agreement.proofs.Places.{here, cell-is, line-at}
 use Rattle.agreement.proofs.Records.{trailer, part-at, place-below}
 use Rattle.agreement.proofs.References.{acceptable}
 
 -- A variable that is present has a number below 64, where there are at most 32 of the user's.
 present-below : (users n : ℕ) → users ≤ 32 → present users n ≡ true → n < 64
-present-below users n h e = go (leb 1 n && leb n 20) (leb 32 n && ltb n (32 + users)) refl refl e
-  where
-    go : (a b : Bool) → (leb 1 n && leb n 20) ≡ a → (leb 32 n && ltb n (32 + users)) ≡ b → (a || b) ≡ true → n < 64
-    go true b p q r = let l = leb-true n 20 (both-true (leb 1 n) (leb n 20) p .1) in omega arith
-    go false true p q r = let l = ltb-true n (32 + users) (both-true (leb 32 n) (ltb n (32 + users)) q .1) in omega arith
-    go false false p q r = let z : _≡_ {A = ℕ} 0 1 = cc in absurd (omega arith)
+present-below users n h e = by-present users n (true-is (present users n) e) (λ l m. omega arith) (λ l m. omega arith)
 
 -- The cell of an acceptable statement fits its bytes.
 module _ {R : Type 0} (place number : R → ℕ) (s : List ℕ) (variables : ℕ) (few : variables ≤ 32) (near : (n : R) → place n < 65536) where
   good-written : (v : R) → Writes place number s variables v → number v < 256
   unfolding Writes
   good-written v h =
-      let l = present-below variables (number v) few (both-true (present variables (number v)) (not (readOnly (number v))) h .0) in
+      let l = present-below variables (number v) few (and-eq-true-iff (present variables (number v)) (not (readOnly (number v))) .0 h .0) in
       omega arith
 
   good-operand : (x : Value R) → Reads place number s variables x → GoodOperand (operandOf place number x)

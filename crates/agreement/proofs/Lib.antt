@@ -1,6 +1,5 @@
 pub mod Meaning
 pub mod Runs
-pub mod Parsed
 pub mod Sound
 pub mod Words
 pub mod Places

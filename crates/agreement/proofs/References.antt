@@ -1,27 +1,27 @@
 -- What a statement of an accepted text refers to is there: its labels have records, its variables numbers that are present.
 -- Assumes nothing.
 use mathlib.Core.Path.{_≡_, refl, sym, subst, ap}
-use mathlib.Core.Bool.{Bool, true, false, cond, _&&_, _||_, not}
+use mathlib.Core.Bool.{Bool, true, false, cond, _&&_, _||_, not, and-false, or-true}
 use mathlib.Core.List.{List, [], _∷_, _++_}
 use Prim.Native.Nat.{ℕ, _+_, _≤_, _<_}
 use native.Mathlib.Omega.{arith}
 use borrow.Author.Tests.{le-leb, lt-leb, lt-ltb, eq-eqb, eqb-false, not-false}
 use lib.Dec.{T, eqb, leb}
 use Rattle.numbers.specs.Tests.{anyOf, eqList}
+use Rattle.numbers.proofs.Tests.{eqList-eq}
+use Rattle.numbers.proofs.Truth.{neither}
 use Rattle.program.specs.Names.{Name, paperVariable}
 use Rattle.program.specs.Variables.{inRange, literals, present, readOnly}
 use Rattle.program.specs.Statements.{Value, Literal, Variable, Condition, Always, Compare, Statement, Set, SetWith, IC, DC, BR, CL, RT, E, H, Hold, OE, Disarm, MA, MR, SL, PR, compared, operands, writes, targets}
 use Rattle.program.proofs.Places.{paper-most}
-use Rattle.program.proofs.Keys.{eqList-eq}
 use Rattle.text.specs.Forms.{Line, Blank, Label, Declared, Acts}
-use Rattle.text.specs.Faults.{howMany, makesLabel, makesVariable, declares, declaresIt, firstMakes, placeOf, rankOf, numberOf, unknownVariable, unknownValue, unknownIn, undeclared, readOnlyWritten, tooBig, bigValue, bigIn}
+use Rattle.text.specs.Faults.{howMany, makesLabel, makesVariable, declares, declaresIt, firstMakes, placeOf, rankOf, numberOf, unknownVariable, unknownValue, unknownIn, undeclared, readOnlyWritten, tooBig, bigValue}
 use Rattle.image.specs.Layout.{labelTarget}
 use Rattle.image.specs.Code.{labelled}
-use Rattle.image.proofs.Any.{that-is, or-true}
+use Rattle.image.proofs.Any.{that-is}
 use Rattle.image.proofs.Accepted.{Writes, Reads, Names, Compares, Acceptable}
 use Rattle.translation.specs.Images.{imageOf}
-use Rattle.agreement.proofs.Parsed.{ParsedCondition, ParsedStatement}
-use Rattle.agreement.proofs.Sound.{Fine, Good, neither}
+use Rattle.agreement.proofs.Sound.{Fine, Good}
 use Rattle.agreement.proofs.Places.{rankBy, rank-rank, rank-below, count-behind}
 use Rattle.agreement.proofs.Records.{label-count, label-target}
 
@@ -36,10 +36,6 @@ module _ {A : Type 0} (p : A → Bool) where
   two-none x y e = let a = neither (p x) (p y || false) e in (a .0, neither (p y) false (a .1) .0)
 
 -- ---- variables
-
-and-false : (b : Bool) → (b && false) ≡ false
-and-false true = refl
-and-false false = refl
 
 -- A number of the paper's is present, and so is one of the user's.
 module _ (users n : ℕ) where
@@ -158,39 +154,39 @@ module _ (xs : List Line) (f : Fine xs) where
       let d = two-none (unknownValue xs) x y u in
       (known x (c .0) (d .0), known y (c .1) (d .1))
 
-  compares : (c : Condition Name) → ParsedCondition c → anyOf bigValue (compared c) ≡ false → anyOf (unknownValue xs) (compared c) ≡ false
+  compares : (c : Condition Name) → anyOf bigValue (compared c) ≡ false → anyOf (unknownValue xs) (compared c) ≡ false
       → Compares (placeOf xs) (numberOf xs) (imageOf xs) (howMany makesVariable xs) c
   unfolding Compares compared
-  compares Always h b u = tt
-  compares (Compare x c y) h b u = read-two x y b u
+  compares Always b u = tt
+  compares (Compare x c y) b u = read-two x y b u
 
-  acts : (s : Statement Name) → ParsedStatement s → anyOf bigValue (operands s) ≡ false
+  acts : (s : Statement Name) → anyOf bigValue (operands s) ≡ false
       → anyOf (λ n. not (firstMakes makesLabel n xs)) (targets s) ≡ false → anyOf (unknownVariable xs) (writes s) ≡ false
       → anyOf (unknownValue xs) (operands s) ≡ false → anyOf (λ v. readOnly (paperVariable v)) (writes s) ≡ false
       → Acceptable (placeOf xs) (numberOf xs) (imageOf xs) (howMany makesVariable xs) s
   unfolding Acceptable operands targets writes
-  acts (Set v x) h b t w u r = (written v w r, read-one x b u)
-  acts (SetWith v x o y) h b t w u r = let k = read-two x y b u in (written v w r, k .0, k .1)
-  acts (IC v) h b t w u r = written v w r
-  acts (DC v) h b t w u r = written v w r
-  acts (BR n c) h b t w u r = (named n t, compares c (h .1) b u)
-  acts (CL n c) h b t w u r = (named n t, compares c (h .1) b u)
-  acts RT h b t w u r = tt
-  acts E h b t w u r = tt
-  acts H h b t w u r = tt
-  acts (Hold x) h b t w u r = read-one x b u
-  acts (OE n) h b t w u r = named n t
-  acts Disarm h b t w u r = tt
-  acts (MA x) h b t w u r = read-one x b u
-  acts (MR x) h b t w u r = read-one x b u
-  acts (SL x) h b t w u r = read-one x b u
-  acts (PR x) h b t w u r = read-one x b u
+  acts (Set v x) b t w u r = (written v w r, read-one x b u)
+  acts (SetWith v x o y) b t w u r = let k = read-two x y b u in (written v w r, k .0, k .1)
+  acts (IC v) b t w u r = written v w r
+  acts (DC v) b t w u r = written v w r
+  acts (BR n c) b t w u r = (named n t, compares c b u)
+  acts (CL n c) b t w u r = (named n t, compares c b u)
+  acts RT b t w u r = tt
+  acts E b t w u r = tt
+  acts H b t w u r = tt
+  acts (Hold x) b t w u r = read-one x b u
+  acts (OE n) b t w u r = named n t
+  acts Disarm b t w u r = tt
+  acts (MA x) b t w u r = read-one x b u
+  acts (MR x) b t w u r = read-one x b u
+  acts (SL x) b t w u r = read-one x b u
+  acts (PR x) b t w u r = read-one x b u
 
   -- the statement of a line of the text is one that the check of its image accepts
   pub acceptable : (before : List Line) (s : Statement Name) → Good xs before (Acts s)
       → Acceptable (placeOf xs) (numberOf xs) (imageOf xs) (howMany makesVariable xs) s
-  unfolding bigIn undeclared unknownIn readOnlyWritten
+  unfolding undeclared unknownIn readOnlyWritten
   acceptable before s g =
       let t = neither (anyOf (λ n. not (firstMakes makesLabel n xs)) (targets s)) _ (g .known) in
       let w = neither (anyOf (unknownVariable xs) (writes s)) (anyOf (unknownValue xs) (operands s)) (t .1) in
-      acts s (g .parsed) (g .small) (t .0) (w .0) (w .1) (g .writable)
+      acts s (g .heard .1) (t .0) (w .0) (w .1) (g .writable)
