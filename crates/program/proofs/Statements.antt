@@ -1,5 +1,6 @@
--- What is said of a statement by its parts, and the fields of its cell by the same.
+-- What is said of a statement by its parts, and its cell by the same parts.
 -- Assumes nothing.
+use mathlib.Core.List.{List, [], _∷_}
 use Prim.Native.Nat.{ℕ, _≤_}
 use native.Mathlib.Omega.{arith}
 use lib.Dec.{lit≤}
@@ -28,39 +29,65 @@ refers-then {Reads} {Reads′} {Sets} {Sets′} {Aims} {Aims′} f g h s r =
       aims = each-then Aims Aims′ h (targets s) (r .aims);
     }
 
--- What the fields of a cell are like.
-pub record Fields (Operands : Operand → Type 0) (Written Target : ℕ → Type 0) (c : Cell) : Type 0 where
-  pub operation : c .operation ≤ 14
-  pub written : Written (c .written)
-  pub selector : c .selector ≤ 7
-  pub left : Operands (c .left)
-  pub right : Operands (c .right)
-  pub target : Target (c .target)
+-- The fields of a statement's cell, each by a part of the statement, or not used.
+module _ {R : Type 0} (place number : R → ℕ) where
+  pub data ReadBy : List (Value R) → Operand → Operand → Type 0 where
+    none : ReadBy [] O.Nothing O.Nothing
+    one : (x : Value R) → ReadBy (x ∷ []) (operandOf place number x) O.Nothing
+    two : (x y : Value R) → ReadBy (x ∷ y ∷ []) (operandOf place number x) (operandOf place number y)
 
--- A field of a statement's cell is that of a part of the statement, or it is not used.
-module _ {R : Type 0} (place number : R → ℕ) (Operands : Operand → Type 0) (Written Target : ℕ → Type 0)
-    (nothing : Operands O.Nothing) (unwritten : Written 0) (unaimed : Target 0) (disarmed : Target noTarget) where
-  made : {o w c n : ℕ} {l r : Operand} → o ≤ 14 → Written w → c ≤ 7 → Operands l → Operands r → Target n → Fields Operands Written Target (cell o w c l r n)
-  made a b c d e f = record { operation = a; written = b; selector = c; left = d; right = e; target = f }
+  pub data WrittenBy : List R → ℕ → Type 0 where
+    unwritten : WrittenBy [] 0
+    wrote : (v : R) → WrittenBy (v ∷ []) (number v)
 
-  pub cell-fields : (s : Statement R) → Refers (λ x. Operands (operandOf place number x)) (λ v. Written (number v)) (λ n. Target (place n)) s
-      → Fields Operands Written Target (cellOf place number s)
+  pub data AimedBy : List R → ℕ → Type 0 where
+    unaimed : AimedBy [] 0
+    disarmed : AimedBy [] noTarget
+    aimed : (n : R) → AimedBy (n ∷ []) (place n)
+
+  pub record Has (s : Statement R) (c : Cell) : Type 0 where
+    pub operation : c .operation ≤ 14
+    pub selector : c .selector ≤ 7
+    pub read : ReadBy (operands s) (c .left) (c .right)
+    pub written : WrittenBy (writes s) (c .written)
+    pub target : AimedBy (targets s) (c .target)
+
+  parts : {s : Statement R} {c : Cell} → c .operation ≤ 14 → c .selector ≤ 7 → ReadBy (operands s) (c .left) (c .right) → WrittenBy (writes s) (c .written)
+      → AimedBy (targets s) (c .target) → Has s c
+  parts o c x v n = record { operation = o; selector = c; read = x; written = v; target = n }
+
+  pub cell-has : (s : Statement R) → Has s (cellOf place number s)
   unfolding operands writes targets compared cellOf jumpOf
-  cell-fields (Set v x) h = made (lit≤ tt) (h .sets .0) (lit≤ tt) (h .reads .0) nothing unaimed
-  cell-fields (SetWith v x o y) h = made (lit≤ tt) (h .sets .0) (operator-range o .1) (h .reads .0) (h .reads .1 .0) unaimed
-  cell-fields (IC v) h = made (lit≤ tt) (h .sets .0) (lit≤ tt) nothing nothing unaimed
-  cell-fields (DC v) h = made (lit≤ tt) (h .sets .0) (lit≤ tt) nothing nothing unaimed
-  cell-fields (BR n Always) h = made (lit≤ tt) unwritten (lit≤ tt) nothing nothing (h .aims .0)
-  cell-fields (BR n (Compare x c y)) h = made (lit≤ tt) unwritten (omega (arith, comparison-range c .1)) (h .reads .0) (h .reads .1 .0) (h .aims .0)
-  cell-fields (CL n Always) h = made (lit≤ tt) unwritten (lit≤ tt) nothing nothing (h .aims .0)
-  cell-fields (CL n (Compare x c y)) h = made (lit≤ tt) unwritten (omega (arith, comparison-range c .1)) (h .reads .0) (h .reads .1 .0) (h .aims .0)
-  cell-fields RT h = made (lit≤ tt) unwritten (lit≤ tt) nothing nothing unaimed
-  cell-fields E h = made (lit≤ tt) unwritten (lit≤ tt) nothing nothing unaimed
-  cell-fields H h = made (lit≤ tt) unwritten (lit≤ tt) nothing nothing unaimed
-  cell-fields (Hold x) h = made (lit≤ tt) unwritten (lit≤ tt) (h .reads .0) nothing unaimed
-  cell-fields (OE n) h = made (lit≤ tt) unwritten (lit≤ tt) nothing nothing (h .aims .0)
-  cell-fields Disarm h = made (lit≤ tt) unwritten (lit≤ tt) nothing nothing disarmed
-  cell-fields (MA x) h = made (lit≤ tt) unwritten (lit≤ tt) (h .reads .0) nothing unaimed
-  cell-fields (MR x) h = made (lit≤ tt) unwritten (lit≤ tt) (h .reads .0) nothing unaimed
-  cell-fields (SL x) h = made (lit≤ tt) unwritten (lit≤ tt) (h .reads .0) nothing unaimed
-  cell-fields (PR x) h = made (lit≤ tt) unwritten (lit≤ tt) (h .reads .0) nothing unaimed
+  cell-has (Set v x) = parts (lit≤ tt) (lit≤ tt) (one x) (wrote v) unaimed
+  cell-has (SetWith v x o y) = parts (lit≤ tt) (operator-range o .1) (two x y) (wrote v) unaimed
+  cell-has (IC v) = parts (lit≤ tt) (lit≤ tt) none (wrote v) unaimed
+  cell-has (DC v) = parts (lit≤ tt) (lit≤ tt) none (wrote v) unaimed
+  cell-has (BR n Always) = parts (lit≤ tt) (lit≤ tt) none unwritten (aimed n)
+  cell-has (BR n (Compare x c y)) = parts (lit≤ tt) (omega (arith, comparison-range c .1)) (two x y) unwritten (aimed n)
+  cell-has (CL n Always) = parts (lit≤ tt) (lit≤ tt) none unwritten (aimed n)
+  cell-has (CL n (Compare x c y)) = parts (lit≤ tt) (omega (arith, comparison-range c .1)) (two x y) unwritten (aimed n)
+  cell-has RT = parts (lit≤ tt) (lit≤ tt) none unwritten unaimed
+  cell-has E = parts (lit≤ tt) (lit≤ tt) none unwritten unaimed
+  cell-has H = parts (lit≤ tt) (lit≤ tt) none unwritten unaimed
+  cell-has (Hold x) = parts (lit≤ tt) (lit≤ tt) (one x) unwritten unaimed
+  cell-has (OE n) = parts (lit≤ tt) (lit≤ tt) none unwritten (aimed n)
+  cell-has Disarm = parts (lit≤ tt) (lit≤ tt) none unwritten disarmed
+  cell-has (MA x) = parts (lit≤ tt) (lit≤ tt) (one x) unwritten unaimed
+  cell-has (MR x) = parts (lit≤ tt) (lit≤ tt) (one x) unwritten unaimed
+  cell-has (SL x) = parts (lit≤ tt) (lit≤ tt) (one x) unwritten unaimed
+  cell-has (PR x) = parts (lit≤ tt) (lit≤ tt) (one x) unwritten unaimed
+
+  -- What holds of the parts holds of the fields, where it holds of those that are not used.
+  pub both-read : {xs : List (Value R)} {l r : Operand} (P : Operand → Type 0) → P O.Nothing → ReadBy xs l r → Each (λ x. P (operandOf place number x)) xs → P l × P r
+  both-read P n none h = (n, n)
+  both-read P n (one x) h = (h .0, n)
+  both-read P n (two x y) h = (h .0, h .1 .0)
+
+  pub all-written : {vs : List R} {w : ℕ} (P : ℕ → Type 0) → P 0 → WrittenBy vs w → Each (λ v. P (number v)) vs → P w
+  all-written P z unwritten h = z
+  all-written P z (wrote v) h = h .0
+
+  pub all-aimed : {ns : List R} {t : ℕ} (P : ℕ → Type 0) → P 0 → P noTarget → AimedBy ns t → Each (λ n. P (place n)) ns → P t
+  all-aimed P z d unaimed h = z
+  all-aimed P z d disarmed h = d
+  all-aimed P z d (aimed n) h = h .0
