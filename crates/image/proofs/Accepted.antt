@@ -1,7 +1,7 @@
 -- What the writer makes is accepted, row by row: the trailer, and the cell of each statement whose names are there.
 -- Assumes nothing.
 use mathlib.Core.Path.{_≡_, refl, ap, _∙_}
-use mathlib.Core.Bool.{Bool, true, false, _&&_, not}
+use mathlib.Core.Bool.{Bool, true, false, _&&_, not, or-true}
 use mathlib.Core.List.{List, _++_}
 use Prim.Native.Nat.{ℕ, _+_, _*_, _≤_}
 use native.Mathlib.Omega.{arith}
@@ -20,7 +20,6 @@ use Rattle.program.specs.declared.Operand.the-variants as O
 use Rattle.image.specs.Layout.{shape, operandNumber, cellBytes, imageLength, trailerBytes, variableCount}
 use Rattle.image.specs.Check.{badLength, badEdition, badTrailer, Use, layouts, goodWritten, goodSelector, goodOperand, goodTarget, fits, badCell}
 use Rattle.image.specs.Code.{labelled}
-use Rattle.image.proofs.Any.{or-true}
 use Rattle.image.proofs.Back.{GoodCell, shapes-apart, operation-back, written-back, selector-back, shapes-back, left-back, right-back, target-back, rest-back, length-trailed, first-label-back, cell-count-back, label-count-back, variable-count-back, edition-back, whole-length-back}
 
 -- ---- the trailer

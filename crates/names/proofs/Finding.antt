@@ -10,6 +10,7 @@ use borrow.Author.Tests.{eqb-true, eqb-false}
 use lib.Dec.{eqb}
 use lib.ListN.{length, take, drop}
 use Rattle.numbers.specs.Tests.{eqList, anyOf, lowest}
+use Rattle.numbers.proofs.Truth.{eqb-turn}
 use Rattle.numbers.proofs.Tests.{Each}
 use Rattle.program.specs.Names.{Name}
 use Rattle.program.specs.Code.{key, nameOf}
@@ -20,7 +21,7 @@ use Rattle.text.specs.Faults.{heard, said, declares, declaresIt, makesLabel, ma
 use Rattle.text.specs.Code.{saidBy, readingOf, LineAt}
 use Rattle.text.specs.declared.Span.{Span}
 use Rattle.text.specs.declared.forms.Reading.{Reading}
-use Rattle.text.proofs.Heard.{Fine, heard-fine, cell-kind, label-kind, variable-kind, eqb-turn, reading-kind, reading-name, line-fault}
+use Rattle.text.proofs.Heard.{Fine, heard-fine, cell-kind, label-kind, variable-kind, reading-kind, reading-name, line-fault}
 use Rattle.names.specs.declared.Found.{Found}
 use Rattle.names.specs.declared.heads.Head.{Head}
 use Rattle.names.specs.Code.{found, declaring, plus, headOf, declaredIn, kindFrom, foundFrom, DeclaredAs, FoundAt}

@@ -1,17 +1,18 @@
 -- What the layers above need of a line that is heard: its names are words, and what the paper asks of it is asked of its reading.
 -- Assumes nothing.
 use mathlib.Core.Path.{_≡_, refl, sym, ap, ap₂, subst, _∙_}
-use mathlib.Core.Bool.{Bool, true, false, cond, _&&_, _||_, not}
+use mathlib.Core.Bool.{Bool, true, false, cond, _&&_, _||_, not, or-false}
 use mathlib.Core.List.{List, [], _∷_}
 use mathlib.Core.Logic.{⊎-elim}
 use mathlib.Core.Option.{Option, none, some}
 use Prim.Native.Nat.{ℕ, _<_}
 use native.Mathlib.Omega.{arith}
 use borrow.Author.Tests.{ne-eqb}
-use lib.Dec.{T, eqb, leb, leb→le, eqb→eq, eqb-refl}
+use lib.Dec.{T, eqb, leb, leb→le, eqb→eq}
 use lib.ListN.{length}
 use Rattle.numbers.specs.Bytes.{number}
 use Rattle.numbers.specs.Tests.{allOf, anyOf, lowest}
+use Rattle.numbers.proofs.Truth.{neither, both, both-of, either}
 use Rattle.program.specs.Names.{Name, letter, digit, wordCharacter, reserved, paperVariable, twoCharacters, userName}
 use Rattle.program.specs.Variables.{readOnly, mostCells, mostLabels, mostVariables}
 use Rattle.program.specs.Code.{key, nameOf}
@@ -21,7 +22,7 @@ use Rattle.program.specs.Statements as Said
 use Rattle.program.specs.Statements.{Literal, Variable, Always, Compare, Statement, operands, writes, targets, compared, Set, SetWith, IC, DC, BR, CL, RT, E, H, Hold, OE, Disarm, MA, MR, SL, PR}
 use Rattle.program.specs.declared.Operand.{Operand}
 use Rattle.program.specs.declared.Operand.the-variants as O
-use Rattle.program.proofs.Keys.{both, both-of, either, same-test, name-key, key-positive, user-word}
+use Rattle.program.proofs.Keys.{name-key, key-positive, user-word, user-two}
 use Rattle.text.specs.Tokens as Paper
 use Rattle.text.specs.Tokens.{printable, uncommented, tokens}
 use Rattle.text.specs.Forms as Form
@@ -30,9 +31,6 @@ use Rattle.text.specs.Faults.{longLine, badForm, bigLiteral, reservedNam
 use Rattle.text.specs.Code.{saidBy, readingOf, aimsAt, inOperand, placed, written, operandWith, resolved}
 use Rattle.text.proofs.Words.{variable-word}
 use Rattle.text.proofs.Rows.{HoldsAt, Filled, filled, Rows, last, next, rows, Known, Named, Sound}
-
-never : true ≡ false → ⊥
-never e = let q : _≡_ {A = ℕ} 0 1 = cc in omega arith
 
 -- What a form makes sure of.
 abbrev SoundAt : Option Line → Type 0
@@ -53,7 +51,7 @@ unfolding statement
 statement-sound [] = tt
 statement-sound (t ∷ ts) = form-sound rows (t ∷ ts)
 
-reading-sound : (l : List ℕ) → SoundAt (reading l)
+pub reading-sound : (l : List ℕ) → SoundAt (reading l)
 unfolding reading
 reading-sound l = pick (allOf printable l)
   where
@@ -68,13 +66,9 @@ Fine (Label w) = T (userName w)
 Fine (Declared w z) = T (userName w) × (tooBig z ≡ false)
 Fine (Acts s) = Named s × (anyOf bigValue (operands s) ≡ false)
 
-or-none : (b : Bool) → (b || false) ≡ false → b ≡ false
-or-none true e = absurd (never e)
-or-none false e = refl
-
 own-name : (w : Name) → T (twoCharacters w) → (reserved w || false) ≡ false → T (userName w)
 unfolding userName
-own-name w t e = both-of (twoCharacters w) (not (reserved w)) t (subst (λ (b : Bool). T (not b)) (sym (or-none (reserved w) e)) tt)
+own-name w t e = both-of (twoCharacters w) (not (reserved w)) t (subst (λ (b : Bool). T (not b)) (sym (neither (reserved w) false e .0)) tt)
 
 fine : (x : Line) → Sound x → bigIn x ≡ false → anyOf reserved (declares x) ≡ false → Fine x
 unfolding bigIn anyOf declares
@@ -136,13 +130,6 @@ variable-kind (Declared w z) = refl
 variable-kind (Acts s) = refl
 
 -- The name that a line declares, by its key.
-pub eqb-turn : (a b : ℕ) → eqb a b ≡ eqb b a
-eqb-turn a b = same-test (eqb a b) (eqb b a) (λ t. subst (λ (k : ℕ). T (eqb k a)) (eqb→eq a b t) (eqb-refl a)) (λ t. subst (λ (k : ℕ). T (eqb k b)) (eqb→eq b a t) (eqb-refl b))
-
-or-false : (b : Bool) → (b || false) ≡ b
-or-false true = refl
-or-false false = refl
-
 -- A line that declares a name has its key; the name is the user's.
 
 -- The lowest fault: one of the four of the line by itself, or one of the other four.
@@ -189,10 +176,6 @@ two-low (a ∷ b ∷ c ∷ w) t =
     absurd (omega arith)
 
 -- The target of a cell is the key of a label.
-user-two : (n : Name) → T (userName n) → T (twoCharacters n)
-unfolding userName
-user-two n t = both (twoCharacters n) (not (reserved n)) t .0
-
 aims-at : (n : Name) → T (userName n) → aimsAt (key n) ≡ true
 unfolding noTarget
 aims-at n t =

@@ -1,15 +1,15 @@
 -- What the tokens of a line say by a form: the paper's line and the code's reading of it, form by form.
 -- Assumes nothing.
 use mathlib.Core.Path.{_≡_, refl, sym, ap, ap₂, _∙_}
-use mathlib.Core.Bool.{Bool, true, false, cond, _||_}
+use mathlib.Core.Bool.{Bool, true, false, cond, _||_, true≢false, or-false}
 use mathlib.Core.List.{List, [], _∷_}
 use mathlib.Core.Option.{Option, none, some}
-use Prim.Native.Nat.{ℕ, _-_}
-use native.Mathlib.Omega.{arith}
+use Prim.Native.Nat.{ℕ}
 use lib.Dec.{T}
 use lib.IntN.{ℤ, pos}
 use Rattle.numbers.specs.Bytes.{ascii, number}
 use Rattle.numbers.specs.Tests.{anyOf, eqList}
+use Rattle.numbers.proofs.Truth.{neither}
 use Rattle.program.specs.Names.{Name, reserved, twoCharacters, userName}
 use Rattle.program.specs.Code.{key, nameOf}
 use Rattle.program.specs.Cells as Cells
@@ -117,16 +117,6 @@ filled (s ∷ ss) ts p = pick (takes s ts p) (effect s ts p) (λ us q. filled ss
 unfoldable pub lineReading : Line → Reading
 lineReading x = cond (bigIn x) (faulty 4) (cond (anyOf reserved (declares x)) (faulty 5) (saidBy x))
 
-never : true ≡ false → ⊥
-never e = let q : _≡_ {A = ℕ} 0 1 = cc in omega arith
-
-or-false : (b : Bool) → (b || false) ≡ b
-or-false true = refl
-or-false false = refl
-
-or-none : (b : Bool) → (b || false) ≡ false → b ≡ false
-or-none b e = sym (or-false b) ∙ e
-
 small-same : (z : ℤ) → tooBig z ≡ false → smallOf z ≡ z
 unfolding smallOf
 small-same z e = rw e
@@ -173,8 +163,8 @@ two-big true y = refl
 two-big false y = refl
 
 two-none : (x y : Bool) → (x || (y || false)) ≡ false → (x ≡ false) × (y ≡ false)
-two-none true y e = absurd (never e)
-two-none false y e = (refl, or-none y e)
+two-none true y e = absurd (true≢false e)
+two-none false y e = (refl, neither y false e .0)
 
 module _ (o w : ℕ) (p : Parts) (x : Said.Value Name) (s : Statement Name) (e : anyBig p ≡ ((bigValue x || false) || false)) (f : operands s ≡ x ∷ [])
     (g : cellBy o 1 p ≡ cell o w 0 (operandOf x) O.Nothing 0) (h : cellOf key key s ≡ cell o w 0 (Cells.operandOf key key x) O.Nothing 0) where
@@ -182,7 +172,7 @@ module _ (o w : ℕ) (p : Parts) (x : Said.Value Name) (s : Statement Name) (e :
   unfolding anyOf
   one-says =
       acts-says o 1 p s (bigValue x || false) (e ∙ one-big (bigValue x)) (ap (anyOf bigValue) f)
-      (λ b. g ∙ ap (λ (z : Operand). cell o w 0 z O.Nothing 0) (small-operand x (or-none (bigValue x) b)) ∙ sym h)
+      (λ b. g ∙ ap (λ (z : Operand). cell o w 0 z O.Nothing 0) (small-operand x (neither (bigValue x) false b .0)) ∙ sym h)
 
 module _ (o w c k : ℕ) (p : Parts) (x y : Said.Value Name) (s : Statement Name) (e : anyBig p ≡ ((bigValue x || bigValue y) || false)) (f : operands s ≡ x ∷ y ∷ [])
     (g : cellBy o 2 p ≡ cell o w c (operandOf x) (operandOf y) k) (h : cellOf key key s ≡ cell o w c (Cells.operandOf key key x) (Cells.operandOf key key y) k) where
