@@ -8,19 +8,20 @@ use native.Mathlib.Omega.{arith}
 use lib.Dec.{lit<}
 use lib.ListN.{length}
 use Rattle.numbers.proofs.Kit.{within32}
+use Rattle.numbers.proofs.Tests.{each-then}
 use Rattle.numbers.proofs.Truth.{true-is}
 use Rattle.program.specs.Names.{Name}
 use Rattle.program.specs.Variables.{literals, present, readOnly}
-use Rattle.program.specs.Cells.{cell, cellOf, jumpOf, operandOf, noTarget}
-use Rattle.program.specs.Statements.{Value, Literal, Variable, Condition, Always, Compare, Statement, Set, SetWith, IC, DC, BR, CL, RT, E, H, Hold, OE, Disarm, MA, MR, SL, PR}
+use Rattle.program.specs.Cells.{cell, cellOf, operandOf, noTarget}
+use Rattle.program.specs.Statements.{Value, Literal, Variable, Statement, operands, writes, targets}
 use Rattle.program.specs.declared.Operand.the-variants as O
 use Rattle.program.proofs.Ranges.{by-present}
-use Rattle.program.proofs.Selectors.{operator-range, comparison-range}
+use Rattle.program.proofs.Statements.{cell-has, both-read, all-written, all-aimed}
 use Rattle.text.specs.Forms.{Line, Acts}
 use Rattle.text.specs.Faults.{howMany, makesCell, makesVariable, placeOf, numberOf}
 use Rattle.image.specs.Layout.{cellBytes, cellAt}
 use Rattle.image.proofs.Back.{GoodOperand, GoodCell, cell-back}
-use Rattle.image.proofs.Accepted.{Writes, Reads, Compares, Acceptable}
+use Rattle.image.proofs.Accepted.{Writes, Reads, Names, Acceptable}
 use Rattle.translation.specs.Images.{cellPart, labelPart, variablePart, imageOf}
 use Rattle.translation.specs.Places.{lineAt}
 use Rattle.translation.proofs.Parts.{parts-length, cells-sized}
@@ -46,59 +47,20 @@ module _ {R : Type 0} (place number : R → ℕ) (s : List ℕ) (variables : ℕ
   good-operand (Literal z) h = within32 (literals .lowest) (literals .highest) z refl refl h
   good-operand (Variable v) h = let l = present-below variables (number v) few h in omega arith
 
-  good-jump : (o : ℕ) (n : R) (c : Condition R) → o < 256 → Compares place number s variables c → GoodCell (jumpOf place number o n c)
-  unfolding Compares jumpOf GoodOperand
-  good-jump o n Always l h = record { operation = l; written = lit< tt; selector = lit< tt; left = tt; right = tt; target = near n }
-  good-jump o n (Compare x c y) l h =
-      record {
-        operation = l;
-        written = lit< tt;
-        selector = omega (arith, comparison-range c .1);
-        left = good-operand x (h .0);
-        right = good-operand y (h .1);
-        target = near n;
-      }
-
-  -- a target and nothing else, one variable written, one operand
-  good-target : (o n : ℕ) → o < 256 → n < 65536 → GoodCell (cell o 0 0 O.Nothing O.Nothing n)
-  unfolding GoodOperand
-  good-target o n l h = record { operation = l; written = lit< tt; selector = lit< tt; left = tt; right = tt; target = h }
-
-  good-write : (o : ℕ) (v : R) → o < 256 → Writes place number s variables v → GoodCell (cell o (number v) 0 O.Nothing O.Nothing 0)
-  unfolding GoodOperand
-  good-write o v l h = record { operation = l; written = good-written v h; selector = lit< tt; left = tt; right = tt; target = lit< tt }
-
-  good-read : (o : ℕ) (x : Value R) → o < 256 → Reads place number s variables x → GoodCell (cell o 0 0 (operandOf place number x) O.Nothing 0)
-  unfolding GoodOperand
-  good-read o x l h = record { operation = l; written = lit< tt; selector = lit< tt; left = good-operand x h; right = tt; target = lit< tt }
-
   pub good-cell : (st : Statement R) → Acceptable place number s variables st → GoodCell (cellOf place number st)
-  unfolding Acceptable cellOf GoodOperand noTarget
-  good-cell (Set v x) h =
-      record { operation = lit< tt; written = good-written v (h .0); selector = lit< tt; left = good-operand x (h .1); right = tt; target = lit< tt }
-  good-cell (SetWith v x o y) h =
+  unfolding GoodOperand noTarget
+  good-cell st h =
+      let c = cell-has place number st in
+      let x = each-then (Reads place number s variables) (λ x. GoodOperand (operandOf place number x)) good-operand (operands st) (h .reads) in
+      let b = both-read place number GoodOperand tt (c .read) x in
       record {
-        operation = lit< tt;
-        written = good-written v (h .0);
-        selector = omega (arith, operator-range o .1);
-        left = good-operand x (h .1);
-        right = good-operand y (h .2);
-        target = lit< tt;
+        operation = omega (arith, c .operation);
+        written = all-written place number (λ w. w < 256) (lit< tt) (c .written) (each-then (Writes place number s variables) (λ v. number v < 256) good-written (writes st) (h .sets));
+        selector = omega (arith, c .selector);
+        left = b .0;
+        right = b .1;
+        target = all-aimed place number (λ t. t < 65536) (lit< tt) (lit< tt) (c .target) (each-then (Names place number s variables) (λ n. place n < 65536) (λ n a. near n) (targets st) (h .aims));
       }
-  good-cell (IC v) h = good-write 3 v (lit< tt) h
-  good-cell (DC v) h = good-write 4 v (lit< tt) h
-  good-cell (BR n c) h = good-jump 5 n c (lit< tt) (h .1)
-  good-cell (CL n c) h = good-jump 6 n c (lit< tt) (h .1)
-  good-cell RT h = good-target 7 0 (lit< tt) (lit< tt)
-  good-cell E h = good-target 8 0 (lit< tt) (lit< tt)
-  good-cell H h = good-target 9 0 (lit< tt) (lit< tt)
-  good-cell (Hold x) h = good-read 9 x (lit< tt) h
-  good-cell (OE n) h = good-target 10 (place n) (lit< tt) (near n)
-  good-cell Disarm h = good-target 10 65535 (lit< tt) (lit< tt)
-  good-cell (MA x) h = good-read 11 x (lit< tt) h
-  good-cell (MR x) h = good-read 12 x (lit< tt) h
-  good-cell (SL x) h = good-read 13 x (lit< tt) h
-  good-cell (PR x) h = good-read 14 x (lit< tt) h
 
 -- What stands behind a cell, with these lines behind its own.
 abbrev pub cellRest : List Line → List Line → List ℕ

@@ -18,6 +18,7 @@ use Rattle.program.specs.Statements as Said
 use Rattle.program.specs.Statements.{Literal, Variable, Operator, Comparison, Always, Compare, Statement, operands, writes, targets, compared, Set, SetWith, IC, DC, BR, CL, RT, E, H, Hold, OE, Disarm, MA, MR, SL, PR}
 use Rattle.program.specs.declared.Operand.{Operand}
 use Rattle.program.specs.declared.Operand.the-variants as O
+use Rattle.program.proofs.Statements.{Refers}
 use Rattle.text.specs.Tokens as Paper
 use Rattle.text.specs.Forms as Form
 use Rattle.text.specs.Forms.{Line, Blank, Label, Declared, Acts, took, literal, variable, operand, variableName, operatorMeant, comparisonMeant, Parts, noParts, forms, naming, writing, onLeft, operating, comparing, onRight, starting, Slot, Is, New, Target, Written, Left, Right, Start, Operating, Comparing, put, word, sign, takes, fill}
@@ -182,17 +183,9 @@ module _ (o w c k : ℕ) (p : Parts) (x y : Said.Value Name) (s : Statement Name
       acts-says o 2 p s (bigValue x || (bigValue y || false)) (e ∙ two-big (bigValue x) (bigValue y)) (ap (anyOf bigValue) f)
       (λ b. let n = two-none (bigValue x) (bigValue y) b in g ∙ ap₂ (λ (z u : Operand). cell o w c z u k) (small-operand x (n .0)) (small-operand y (n .1)) ∙ sym h)
 
--- Something holds of each.
-module _ {A : Type 0} where
-  abbrev pub Each : (A → Type 0) → List A → Type 0
-  Each P [] = Unit
-  Each P (x ∷ xs) = P x × Each P xs
-
 -- The names in a statement: its label is a name of the user's, its variables are those of the paper or the user.
-pub record Named (s : Statement Name) : Type 0 where
-  pub aims : Each (λ (n : Name). T (userName n)) (targets s)
-  pub sets : Each (λ (v : Name). T (variableName v)) (writes s)
-  pub reads : Each Known (operands s)
+abbrev pub Named : Statement Name → Type 0
+Named s = Refers Known (λ (v : Name). T (variableName v)) (λ (n : Name). T (userName n)) s
 
 -- What a form makes sure of in what a line says.
 abbrev pub Sound : Line → Type 0
