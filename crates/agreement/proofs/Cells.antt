@@ -14,7 +14,6 @@ use Rattle.program.specs.Names.{Name}
 use Rattle.program.specs.Variables.{literals, present, readOnly}
 use Rattle.program.specs.Cells.{cell, cellOf, operandOf, noTarget}
 use Rattle.program.specs.Statements.{Value, Literal, Variable, Statement, operands, writes, targets}
-use Rattle.program.specs.declared.Operand.the-variants as O
 use Rattle.program.proofs.Ranges.{by-present}
 use Rattle.program.proofs.Statements.{cell-has, both-read, all-written, all-aimed}
 use Rattle.text.specs.Forms.{Line, Acts}

@@ -16,7 +16,6 @@ use Rattle.numbers.proofs.Tests.{each-then, all-each, length-listed, listed-at,
 use Rattle.program.specs.Variables.{present, readOnly}
 use Rattle.program.specs.Statements.{writes, targets, isHold}
 use Rattle.program.specs.Cells.{same, statementOf}
-use Rattle.program.specs.declared.Operand.the-variants as O
 use Rattle.image.specs.Layout.{cellCount, labelCount, variableCount, cellAt, labelTarget, startValue, startValues}
 use Rattle.image.specs.Check.{layouts, fits, badLength, imageFaults, checked}
 use Rattle.machine.specs.declared.Machine.{Machine}

@@ -20,9 +20,6 @@ pub is-false : (t : Bool) → T (not t) → t ≡ false
 is-false true h = absurd h
 is-false false h = refl
 
-pub false-is : (t : Bool) → t ≡ false → T (not t)
-false-is t e = subst (λ (b : Bool). T (not b)) (sym e) tt
-
 -- One that cannot hold.
 pub is-no : (t : Bool) → (T t → ⊥) → t ≡ false
 is-no true h = absurd (h tt)
