@@ -1,48 +1,44 @@
 -- The cells of a text's image, read back: each is that of the line with as many cell lines before it.
 -- Assumes nothing.
 use mathlib.Core.Path.{_≡_, refl, sym, subst, ap, _∙_}
-use mathlib.Core.Bool.{Bool, true, false, _&&_, _||_, not}
+use mathlib.Core.Bool.{true, not, and-eq-true-iff}
 use mathlib.Core.List.{List, _∷_, _++_, append-assoc, flatMap}
-use Prim.Native.Nat.{ℕ, _+_, _*_, _≤_, _<_}
+use Prim.Native.Nat.{ℕ, _*_, _≤_, _<_}
 use native.Mathlib.Omega.{arith}
-use borrow.Author.Tests.{leb-true, ltb-true}
-use lib.Dec.{leb, ltb, lit<}
+use lib.Dec.{lit<}
 use lib.ListN.{length}
 use Rattle.numbers.proofs.Kit.{within32}
+use Rattle.numbers.proofs.Tests.{each-then}
+use Rattle.numbers.proofs.Truth.{true-is}
 use Rattle.program.specs.Names.{Name}
 use Rattle.program.specs.Variables.{literals, present, readOnly}
-use Rattle.program.specs.Cells.{cell, cellOf, jumpOf, operandOf, noTarget}
-use Rattle.program.specs.Statements.{Value, Literal, Variable, Condition, Always, Compare, Statement, Set, SetWith, IC, DC, BR, CL, RT, E, H, Hold, OE, Disarm, MA, MR, SL, PR}
-use Rattle.program.specs.declared.Operand.the-variants as O
-use Rattle.program.proofs.Selectors.{operator-range, comparison-range}
+use Rattle.program.specs.Cells.{cell, cellOf, operandOf, noTarget}
+use Rattle.program.specs.Statements.{Value, Literal, Variable, Statement, operands, writes, targets}
+use Rattle.program.proofs.Ranges.{by-present}
+use Rattle.program.proofs.Statements.{cell-has, both-read, all-written, all-aimed}
 use Rattle.text.specs.Forms.{Line, Acts}
 use Rattle.text.specs.Faults.{howMany, makesCell, makesVariable, placeOf, numberOf}
 use Rattle.image.specs.Layout.{cellBytes, cellAt}
 use Rattle.image.proofs.Back.{GoodOperand, GoodCell, cell-back}
-use Rattle.image.proofs.Accepted.{Writes, Reads, Compares, Acceptable}
+use Rattle.image.proofs.Accepted.{Writes, Reads, Names, Acceptable}
 use Rattle.translation.specs.Images.{cellPart, labelPart, variablePart, imageOf}
 use Rattle.translation.specs.Places.{lineAt}
 use Rattle.translation.proofs.Parts.{parts-length, cells-sized}
-use Rattle.agreement.proofs.Sound.{Fine, Good, good, both-true}
+use Rattle.agreement.proofs.Sound.{Fine, Good, good}
 use Rattle.agreement.proofs.Places.{here, cell-is, line-at}
 use Rattle.agreement.proofs.Records.{trailer, part-at, place-below}
 use Rattle.agreement.proofs.References.{acceptable}
 
 -- A variable that is present has a number below 64, where there are at most 32 of the user's.
 present-below : (users n : ℕ) → users ≤ 32 → present users n ≡ true → n < 64
-present-below users n h e = go (leb 1 n && leb n 20) (leb 32 n && ltb n (32 + users)) refl refl e
-  where
-    go : (a b : Bool) → (leb 1 n && leb n 20) ≡ a → (leb 32 n && ltb n (32 + users)) ≡ b → (a || b) ≡ true → n < 64
-    go true b p q r = let l = leb-true n 20 (both-true (leb 1 n) (leb n 20) p .1) in omega arith
-    go false true p q r = let l = ltb-true n (32 + users) (both-true (leb 32 n) (ltb n (32 + users)) q .1) in omega arith
-    go false false p q r = let z : _≡_ {A = ℕ} 0 1 = cc in absurd (omega arith)
+present-below users n h e = by-present users n (true-is (present users n) e) (λ l m. omega arith) (λ l m. omega arith)
 
 -- The cell of an acceptable statement fits its bytes.
 module _ {R : Type 0} (place number : R → ℕ) (s : List ℕ) (variables : ℕ) (few : variables ≤ 32) (near : (n : R) → place n < 65536) where
   good-written : (v : R) → Writes place number s variables v → number v < 256
   unfolding Writes
   good-written v h =
-      let l = present-below variables (number v) few (both-true (present variables (number v)) (not (readOnly (number v))) h .0) in
+      let l = present-below variables (number v) few (and-eq-true-iff (present variables (number v)) (not (readOnly (number v))) .0 h .0) in
       omega arith
 
   good-operand : (x : Value R) → Reads place number s variables x → GoodOperand (operandOf place number x)
@@ -50,59 +46,20 @@ module _ {R : Type 0} (place number : R → ℕ) (s : List ℕ) (variables : ℕ
   good-operand (Literal z) h = within32 (literals .lowest) (literals .highest) z refl refl h
   good-operand (Variable v) h = let l = present-below variables (number v) few h in omega arith
 
-  good-jump : (o : ℕ) (n : R) (c : Condition R) → o < 256 → Compares place number s variables c → GoodCell (jumpOf place number o n c)
-  unfolding Compares jumpOf GoodOperand
-  good-jump o n Always l h = record { operation = l; written = lit< tt; selector = lit< tt; left = tt; right = tt; target = near n }
-  good-jump o n (Compare x c y) l h =
-      record {
-        operation = l;
-        written = lit< tt;
-        selector = omega (arith, comparison-range c .1);
-        left = good-operand x (h .0);
-        right = good-operand y (h .1);
-        target = near n;
-      }
-
-  -- a target and nothing else, one variable written, one operand
-  good-target : (o n : ℕ) → o < 256 → n < 65536 → GoodCell (cell o 0 0 O.Nothing O.Nothing n)
-  unfolding GoodOperand
-  good-target o n l h = record { operation = l; written = lit< tt; selector = lit< tt; left = tt; right = tt; target = h }
-
-  good-write : (o : ℕ) (v : R) → o < 256 → Writes place number s variables v → GoodCell (cell o (number v) 0 O.Nothing O.Nothing 0)
-  unfolding GoodOperand
-  good-write o v l h = record { operation = l; written = good-written v h; selector = lit< tt; left = tt; right = tt; target = lit< tt }
-
-  good-read : (o : ℕ) (x : Value R) → o < 256 → Reads place number s variables x → GoodCell (cell o 0 0 (operandOf place number x) O.Nothing 0)
-  unfolding GoodOperand
-  good-read o x l h = record { operation = l; written = lit< tt; selector = lit< tt; left = good-operand x h; right = tt; target = lit< tt }
-
   pub good-cell : (st : Statement R) → Acceptable place number s variables st → GoodCell (cellOf place number st)
-  unfolding Acceptable cellOf GoodOperand noTarget
-  good-cell (Set v x) h =
-      record { operation = lit< tt; written = good-written v (h .0); selector = lit< tt; left = good-operand x (h .1); right = tt; target = lit< tt }
-  good-cell (SetWith v x o y) h =
+  unfolding GoodOperand noTarget
+  good-cell st h =
+      let c = cell-has place number st in
+      let x = each-then (Reads place number s variables) (λ x. GoodOperand (operandOf place number x)) good-operand (operands st) (h .reads) in
+      let b = both-read place number GoodOperand tt (c .read) x in
       record {
-        operation = lit< tt;
-        written = good-written v (h .0);
-        selector = omega (arith, operator-range o .1);
-        left = good-operand x (h .1);
-        right = good-operand y (h .2);
-        target = lit< tt;
+        operation = omega (arith, c .operation);
+        written = all-written place number (λ w. w < 256) (lit< tt) (c .written) (each-then (Writes place number s variables) (λ v. number v < 256) good-written (writes st) (h .sets));
+        selector = omega (arith, c .selector);
+        left = b .0;
+        right = b .1;
+        target = all-aimed place number (λ t. t < 65536) (lit< tt) (lit< tt) (c .target) (each-then (Names place number s variables) (λ n. place n < 65536) (λ n a. near n) (targets st) (h .aims));
       }
-  good-cell (IC v) h = good-write 3 v (lit< tt) h
-  good-cell (DC v) h = good-write 4 v (lit< tt) h
-  good-cell (BR n c) h = good-jump 5 n c (lit< tt) (h .1)
-  good-cell (CL n c) h = good-jump 6 n c (lit< tt) (h .1)
-  good-cell RT h = good-target 7 0 (lit< tt) (lit< tt)
-  good-cell E h = good-target 8 0 (lit< tt) (lit< tt)
-  good-cell H h = good-target 9 0 (lit< tt) (lit< tt)
-  good-cell (Hold x) h = good-read 9 x (lit< tt) h
-  good-cell (OE n) h = good-target 10 (place n) (lit< tt) (near n)
-  good-cell Disarm h = good-target 10 65535 (lit< tt) (lit< tt)
-  good-cell (MA x) h = good-read 11 x (lit< tt) h
-  good-cell (MR x) h = good-read 12 x (lit< tt) h
-  good-cell (SL x) h = good-read 13 x (lit< tt) h
-  good-cell (PR x) h = good-read 14 x (lit< tt) h
 
 -- What stands behind a cell, with these lines behind its own.
 abbrev pub cellRest : List Line → List Line → List ℕ

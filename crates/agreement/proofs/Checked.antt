@@ -3,13 +3,14 @@
 use mathlib.Core.Path.{_≡_, refl, sym, subst, ap, _∙_}
 use mathlib.Core.Bool.{Bool, true, false, _&&_, _||_}
 use mathlib.Core.List.{List, _∷_, flatMap}
-use Prim.Native.Nat.{ℕ, zero, suc, _+_, _-_, _≤_, _<_}
+use Prim.Native.Nat.{ℕ, _+_, _-_, _≤_, _<_}
 use native.Mathlib.Omega.{arith}
 use borrow.Author.Tests.{le-ltb, leb-true}
-use lib.Dec.{T, leb, ltb}
+use lib.Dec.{leb, ltb}
 use lib.ListN.{length}
-use Rattle.numbers.specs.Tests.{anyBelow, lowest, eqList}
-use Rattle.program.proofs.Keys.{eqList-eq}
+use Rattle.numbers.specs.Tests.{lowest, eqList}
+use Rattle.numbers.proofs.Tests.{no-any, eqList-eq}
+use Rattle.numbers.proofs.Truth.{is-no}
 use Rattle.text.specs.Forms.{Line, Label}
 use Rattle.text.specs.Faults.{said, howMany, makesCell, makesLabel, makesVariable, declares, placeOf, numberOf}
 use Rattle.image.specs.Layout.{imageLength, variableCount, labelTarget}
@@ -22,17 +23,6 @@ use Rattle.agreement.proofs.Places.{fronts, rankBy, place-rank, rank-he
 use Rattle.agreement.proofs.Records.{front, trailed, front-length, cell-count, label-count, variable-count, place-most, variable-start, variable-zeros, start-literal}
 use Rattle.agreement.proofs.Cells.{cellRest, cell-good, cells-before, cell-split, cell-line, line-acceptable}
 use Rattle.agreement.proofs.Names.{label-line, variable-line, label-record, declares-it, declared-once, recorded, names-apart}
-
--- A test that holds of no number below n.
-none-below : (n : ℕ) (p : ℕ → Bool) → ((k : ℕ) → k < n → p k ≡ false) → anyBelow n p ≡ false
-unfolding anyBelow
-none-below zero p h = refl
-none-below (suc n) p h = rw (none-below n p (λ k l. h k (omega arith)), h n (omega arith))
-
--- A test that cannot hold.
-never : (b : Bool) → (T b → ⊥) → b ≡ false
-never true h = absurd (h tt)
-never false h = refl
 
 module _ (xs : List Line) (f : Fine xs) where
   abbrev made : List ℕ
@@ -64,16 +54,16 @@ module _ (xs : List Line) (f : Fine xs) where
 
   pub cells-good : badCells made ≡ false
   unfolding badCells
-  cells-good = rw (cell-count xs f) (none-below (howMany makesCell xs) (badCell made) cell-good-at)
+  cells-good = rw (cell-count xs f) (no-any (badCell made) (howMany makesCell xs) cell-good-at)
 
   -- Refusals 15: names
   name-good : (k : ℕ) → k < howMany makesLabel xs + howMany makesVariable xs → badName made k ≡ false
   unfolding badName
   name-good k h =
       rw (recorded xs f k h .user)
-      (none-below k (λ j. eqList (recordName made j) (recordName made k))
+      (no-any (λ j. eqList (recordName made j) (recordName made k)) k
       (λ j l.
-      never (eqList (recordName made j) (recordName made k))
+      is-no (eqList (recordName made j) (recordName made k))
       (λ t. let e = names-apart xs f j k (omega arith) h (eqList-eq (recordName made j) (recordName made k) t) in omega arith)))
 
   -- targets
@@ -128,9 +118,9 @@ module _ (xs : List Line) (f : Fine xs) where
       rw (
         label-count xs f,
         variable-count xs f,
-        none-below (howMany makesLabel xs + howMany makesVariable xs) (badName made) name-good,
-        none-below (howMany makesLabel xs) (badTarget made) target-good,
-        none-below (howMany makesVariable xs) (badStart made) start-good,
+        no-any (badName made) (howMany makesLabel xs + howMany makesVariable xs) name-good,
+        no-any (badTarget made) (howMany makesLabel xs) target-good,
+        no-any (badStart made) (howMany makesVariable xs) start-good,
       )
 
   pub image-good : checked made ≡ 0

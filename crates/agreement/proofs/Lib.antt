@@ -1,5 +1,4 @@
 pub mod Meaning
-pub mod Parsed
 pub mod Sound
 pub mod Words
 pub mod Places

@@ -6,17 +6,18 @@ use mathlib.Core.List.{List, [], _∷_, _++_}
 use Prim.Native.Nat.{ℕ, _+_, _-_, _<_}
 use native.Mathlib.Omega.{arith}
 use borrow.Author.Tests.{lt-ltb, le-ltb, ltb-true, ltb-false}
-use lib.Dec.{T, ltb}
+use lib.Dec.{ltb}
 use lib.IntN.{ℤ}
 use Rattle.numbers.specs.Tests.{anyOf, eqList}
-use Rattle.program.specs.Names.{Name, twoCharacters, reserved, userName}
-use Rattle.program.proofs.Keys.{eqList-refl}
+use Rattle.numbers.proofs.Truth.{is-true, left-of, neither}
+use Rattle.numbers.proofs.Tests.{eqList-refl}
+use Rattle.program.specs.Names.{Name, userName}
 use Rattle.text.specs.Forms.{Line, Label, Declared}
 use Rattle.text.specs.Faults.{howMany, makesLabel, makesVariable, placeOf, declares, declaresIt, repeated, firstMakes}
 use Rattle.image.specs.Layout.{labelPlace, labelTarget, variablePlace, nameAt}
 use Rattle.image.specs.Check.{recordPlace, recordName}
 use Rattle.translation.specs.Images.{imageOf}
-use Rattle.agreement.proofs.Sound.{Fine, Good, good, neither}
+use Rattle.agreement.proofs.Sound.{Fine, Good, good}
 use Rattle.agreement.proofs.Places.{here, label-is, variable-is, rankBy, first-here, rank-here}
 use Rattle.agreement.proofs.Records.{label-count, label-name, label-target, variable-name}
 
@@ -65,11 +66,7 @@ variable-line xs k h =
 module _ (w : Name) (x : Line) (d : declares x ≡ w ∷ []) where
   pub declares-it : declaresIt w x ≡ true
   unfolding declaresIt anyOf
-  declares-it = rw d (one (eqList w w) (eqList-refl w))
-    where
-      one : (b : Bool) → T b → (b || false) ≡ true
-      one true t = refl
-      one false t = absurd t
+  declares-it = rw d (is-true (eqList w w || false) (left-of (eqList w w) false (eqList-refl w)))
 
   module _ (text before : List Line) (g : Good text before x) where
     -- no line before it declares the name
@@ -78,19 +75,6 @@ module _ (w : Name) (x : Line) (d : declares x ≡ w ∷ []) where
     declared-once =
         let e : repeated before x ≡ false = g .once in
         neither (anyOf (declaresIt w) before) false (rw (repeated, d) at e) .0
-
-    -- which is not reserved
-    pub declared-free : reserved w ≡ false
-    unfolding anyOf
-    declared-free = let e : anyOf reserved (declares x) ≡ false = g .free in neither (reserved w) false (rw d at e) .0
-
-    pub declared-user : T (twoCharacters w) → userName w ≡ true
-    unfolding userName
-    declared-user t = rw (is-true (twoCharacters w) t, declared-free)
-      where
-        is-true : (b : Bool) → T b → b ≡ true
-        is-true true t = refl
-        is-true false t = absurd t
 
 -- The number of a name's record, the labels' first.
 pub recordOf : List Line → Name → ℕ
@@ -128,7 +112,7 @@ module _ (xs : List Line) (f : Fine xs) where
       ∙ rank-here makesLabel (l .name) (l .before) (Label (l .name)) (l .rest) once it
       ∙ l .rank in
       record {
-        user = ap userName n ∙ declared-user (l .name) (Label (l .name)) refl xs (l .before) g (g .parsed);
+        user = ap userName n ∙ is-true (userName (l .name)) (g .heard);
         number = ap (recordOf xs) n ∙ rw (first, rank);
       }
 
@@ -151,7 +135,7 @@ module _ (xs : List Line) (f : Fine xs) where
       let rank : rankBy makesVariable xs (l .name) ≡ k =
       ap (λ (ys : List Line). rankBy makesVariable ys (l .name)) (l .whole) ∙ rank-here makesVariable (l .name) (l .before) x (l .rest) once it ∙ l .rank in
       record {
-        user = ap userName n ∙ declared-user (l .name) x refl xs (l .before) g (g .parsed);
+        user = ap userName n ∙ is-true (userName (l .name)) (g .heard .0);
         number = ap (recordOf xs) n ∙ rw (first, rank);
       }
 

@@ -3,17 +3,18 @@
 use mathlib.Core.Path.{_≡_, refl, ap}
 use mathlib.Core.Bool.{Bool, true, false, cond}
 use mathlib.Core.List.{List, [], _∷_, _++_}
-use Prim.Native.Nat.{ℕ, zero, suc, _+_, _≤_, _<_}
+use Prim.Native.Nat.{ℕ, zero, suc, _≤_, _<_}
 use native.Mathlib.Omega.{arith}
 use lib.IntN.{ℤ}
 use lib.ListN.{length, getD}
 use Rattle.numbers.specs.Tests.{anyOf}
+use Rattle.numbers.proofs.Truth.{neither}
 use Rattle.program.specs.Names.{Name}
 use Rattle.program.specs.Statements.{Statement}
 use Rattle.text.specs.Forms.{Line, Blank, Label, Declared, Acts}
 use Rattle.text.specs.Faults.{howMany, makesCell, makesLabel, makesVariable, declaresIt, firstMakes, placeOf, rankOf}
+use Rattle.names.proofs.Lines.{count-append}
 use Rattle.translation.specs.Places.{lineAt, starts}
-use Rattle.agreement.proofs.Sound.{neither}
 
 -- The line that passes a test behind k others that do.
 pub record Here (p : Line → Bool) (xs : List Line) (k : ℕ) : Type 0 where
@@ -52,21 +53,12 @@ module _ (p : Line → Bool) where
           rank = rw e (i .rank);
         }
 
-  pub count-append : (a b : List Line) → howMany p (a ++ b) ≡ howMany p a + howMany p b
-  unfolding howMany
-  count-append [] b = omega arith
-  count-append (x ∷ a) b = go (p x) (count-append a b) where
-    go : (t : Bool) → howMany p (a ++ b) ≡ howMany p a + howMany p b
-        → cond t (suc (howMany p (a ++ b))) (howMany p (a ++ b)) ≡ cond t (suc (howMany p a)) (howMany p a) + howMany p b
-    go true e = omega arith
-    go false e = e
-
   -- a line that passes is behind fewer than all
   pub count-behind : (before : List Line) (x : Line) (rest : List Line) → p x ≡ true → howMany p before < howMany p (before ++ (x ∷ rest))
   unfolding howMany
   count-behind before x rest e =
       let h : howMany p (x ∷ rest) ≡ suc (howMany p rest) = rw e in
-      omega (arith, count-append before (x ∷ rest))
+      omega (arith, count-append p before (x ∷ rest))
 
 -- Of two fronts of one list, the one with fewer lines of a kind has no more of another.
 pub fronts : (p q : Line → Bool) (a b c d : List Line) → a ++ b ≡ c ++ d → howMany p a < howMany p c → howMany q a ≤ howMany q c

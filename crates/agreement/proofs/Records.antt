@@ -17,7 +17,7 @@ use Rattle.numbers.proofs.Lists.{flat-append}
 use Rattle.program.specs.Names.{Name}
 use Rattle.program.specs.Variables.{inRange, literals}
 use Rattle.text.specs.Forms.{Line, Label, Declared}
-use Rattle.text.specs.Faults.{howMany, makesCell, makesLabel, makesVariable, placeOf, tooBig, bigIn}
+use Rattle.text.specs.Faults.{howMany, makesCell, makesLabel, makesVariable, placeOf, tooBig}
 use Rattle.image.specs.Layout.{labelBytes, variableBytes, trailerBytes, cellCount, labelCount, variableCount, labelPlace, labelTarget, variablePlace, startValue, startValues, nameAt}
 use Rattle.image.proofs.Back.{name-back, label-back, start-back, zeros-back, cell-count-back, label-count-back, variable-count-back}
 use Rattle.translation.specs.Images.{cellPart, labelPart, variablePart, imageOf}
@@ -99,7 +99,7 @@ module _ (xs : List Line) (f : Fine xs) where
     -- a label record
     module _ (w : Name) (e : xs ≡ before ++ (Label w ∷ rest)) where
       label-two : length w ≡ 2
-      label-two = two-named (Label w) (good xs f before (Label w) rest e .parsed)
+      label-two = two-named (Label w) (good xs f before (Label w) rest e .heard)
 
       pub label-place : labelPlace (imageOf xs) (howMany makesLabel before) ≡ 16 * howMany makesCell xs + 4 * howMany makesLabel before
       unfolding labelPlace
@@ -131,11 +131,11 @@ module _ (xs : List Line) (f : Fine xs) where
     -- a variable record
     module _ (w : Name) (z : ℤ) (e : xs ≡ before ++ (Declared w z ∷ rest)) where
       variable-two : length w ≡ 2
-      variable-two = two-named (Declared w z) (good xs f before (Declared w z) rest e .parsed)
+      variable-two = two-named (Declared w z) (good xs f before (Declared w z) rest e .heard)
 
       pub start-literal : inRange literals z ≡ true
-      unfolding bigIn tooBig
-      start-literal = not-false (inRange literals z) (good xs f before (Declared w z) rest e .small)
+      unfolding tooBig
+      start-literal = not-false (inRange literals z) (good xs f before (Declared w z) rest e .heard .1)
 
       pub variable-place : variablePlace (imageOf xs) (howMany makesVariable before)
           ≡ 16 * howMany makesCell xs + (4 * howMany makesLabel xs + 8 * howMany makesVariable before)

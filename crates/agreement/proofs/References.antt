@@ -1,45 +1,31 @@
 -- What a statement of an accepted text refers to is there: its labels have records, its variables numbers that are present.
 -- Assumes nothing.
 use mathlib.Core.Path.{_≡_, refl, sym, subst, ap}
-use mathlib.Core.Bool.{Bool, true, false, cond, _&&_, _||_, not}
+use mathlib.Core.Bool.{Bool, true, false, cond, _&&_, _||_, not, and-false, or-true}
 use mathlib.Core.List.{List, [], _∷_, _++_}
 use Prim.Native.Nat.{ℕ, _+_, _≤_, _<_}
 use native.Mathlib.Omega.{arith}
 use borrow.Author.Tests.{le-leb, lt-leb, lt-ltb, eq-eqb, eqb-false, not-false}
 use lib.Dec.{T, eqb, leb}
 use Rattle.numbers.specs.Tests.{anyOf, eqList}
+use Rattle.numbers.proofs.Tests.{eqList-eq, Each, each-then, each-both, none-each}
+use Rattle.numbers.proofs.Truth.{neither}
 use Rattle.program.specs.Names.{Name, paperVariable}
 use Rattle.program.specs.Variables.{inRange, literals, present, readOnly}
-use Rattle.program.specs.Statements.{Value, Literal, Variable, Condition, Always, Compare, Statement, Set, SetWith, IC, DC, BR, CL, RT, E, H, Hold, OE, Disarm, MA, MR, SL, PR, compared, operands, writes, targets}
+use Rattle.program.specs.Statements.{Value, Literal, Variable, Statement, operands, writes, targets}
 use Rattle.program.proofs.Places.{paper-most}
-use Rattle.program.proofs.Keys.{eqList-eq}
 use Rattle.text.specs.Forms.{Line, Blank, Label, Declared, Acts}
-use Rattle.text.specs.Faults.{howMany, makesLabel, makesVariable, declares, declaresIt, firstMakes, placeOf, rankOf, numberOf, unknownVariable, unknownValue, unknownIn, undeclared, readOnlyWritten, tooBig, bigValue, bigIn}
+use Rattle.text.specs.Faults.{howMany, makesLabel, makesVariable, declares, declaresIt, firstMakes, placeOf, rankOf, numberOf, unknownVariable, unknownValue, unknownIn, undeclared, readOnlyWritten, tooBig, bigValue}
 use Rattle.image.specs.Layout.{labelTarget}
 use Rattle.image.specs.Code.{labelled}
-use Rattle.image.proofs.Any.{that-is, or-true}
-use Rattle.image.proofs.Accepted.{Writes, Reads, Names, Compares, Acceptable}
+use Rattle.image.proofs.Any.{that-is}
+use Rattle.image.proofs.Accepted.{Writes, Reads, Names, Acceptable}
 use Rattle.translation.specs.Images.{imageOf}
-use Rattle.agreement.proofs.Parsed.{ParsedCondition, ParsedStatement}
-use Rattle.agreement.proofs.Sound.{Fine, Good, neither}
+use Rattle.agreement.proofs.Sound.{Fine, Good}
 use Rattle.agreement.proofs.Places.{rankBy, rank-rank, rank-below, count-behind}
 use Rattle.agreement.proofs.Records.{label-count, label-target}
 
--- One or two of a list without a fault.
-module _ {A : Type 0} (p : A → Bool) where
-  one-none : (x : A) → anyOf p (x ∷ []) ≡ false → p x ≡ false
-  unfolding anyOf
-  one-none x e = neither (p x) false e .0
-
-  two-none : (x y : A) → anyOf p (x ∷ y ∷ []) ≡ false → (p x ≡ false) × (p y ≡ false)
-  unfolding anyOf
-  two-none x y e = let a = neither (p x) (p y || false) e in (a .0, neither (p y) false (a .1) .0)
-
 -- ---- variables
-
-and-false : (b : Bool) → (b && false) ≡ false
-and-false true = refl
-and-false false = refl
 
 -- A number of the paper's is present, and so is one of the user's.
 module _ (users n : ℕ) where
@@ -132,65 +118,34 @@ module _ (xs : List Line) (f : Fine xs) where
   abbrev Names′ : Name → Type 0
   Names′ n = Names (placeOf xs) (numberOf xs) (imageOf xs) (howMany makesVariable xs) n
 
-  written : (v : Name) → anyOf (unknownVariable xs) (v ∷ []) ≡ false → anyOf (λ u. readOnly (paperVariable u)) (v ∷ []) ≡ false → Writes′ v
+  written : (v : Name) → unknownVariable xs v ≡ false → readOnly (paperVariable v) ≡ false → Writes′ v
   unfolding Writes
-  written v u r =
-      rw (
-        number-present xs v (one-none (unknownVariable xs) v u),
-        number-writable xs v (one-none (λ u. readOnly (paperVariable u)) v r),
-      )
+  written v u r = rw (number-present xs v u, number-writable xs v r)
 
   known : (x : Value Name) → bigValue x ≡ false → unknownValue xs x ≡ false → Reads′ x
   unfolding Reads bigValue tooBig unknownValue
   known (Literal z) b u = not-false (inRange literals z) b
   known (Variable v) b u = number-present xs v u
 
-  named : (n : Name) → anyOf (λ n. not (firstMakes makesLabel n xs)) (n ∷ []) ≡ false → Names′ n
+  named : (n : Name) → not (firstMakes makesLabel n xs) ≡ false → Names′ n
   unfolding Names
-  named n e = label-there n (not-false (firstMakes makesLabel n xs) (one-none (λ n. not (firstMakes makesLabel n xs)) n e))
+  named n e = label-there n (not-false (firstMakes makesLabel n xs) e)
 
-  read-one : (x : Value Name) → anyOf bigValue (x ∷ []) ≡ false → anyOf (unknownValue xs) (x ∷ []) ≡ false → Reads′ x
-  read-one x b u = known x (one-none bigValue x b) (one-none (unknownValue xs) x u)
-
-  read-two : (x y : Value Name) → anyOf bigValue (x ∷ y ∷ []) ≡ false → anyOf (unknownValue xs) (x ∷ y ∷ []) ≡ false → Reads′ x × Reads′ y
-  read-two x y b u =
-      let c = two-none bigValue x y b in
-      let d = two-none (unknownValue xs) x y u in
-      (known x (c .0) (d .0), known y (c .1) (d .1))
-
-  compares : (c : Condition Name) → ParsedCondition c → anyOf bigValue (compared c) ≡ false → anyOf (unknownValue xs) (compared c) ≡ false
-      → Compares (placeOf xs) (numberOf xs) (imageOf xs) (howMany makesVariable xs) c
-  unfolding Compares compared
-  compares Always h b u = tt
-  compares (Compare x c y) h b u = read-two x y b u
-
-  acts : (s : Statement Name) → ParsedStatement s → anyOf bigValue (operands s) ≡ false
-      → anyOf (λ n. not (firstMakes makesLabel n xs)) (targets s) ≡ false → anyOf (unknownVariable xs) (writes s) ≡ false
-      → anyOf (unknownValue xs) (operands s) ≡ false → anyOf (λ v. readOnly (paperVariable v)) (writes s) ≡ false
-      → Acceptable (placeOf xs) (numberOf xs) (imageOf xs) (howMany makesVariable xs) s
-  unfolding Acceptable operands targets writes
-  acts (Set v x) h b t w u r = (written v w r, read-one x b u)
-  acts (SetWith v x o y) h b t w u r = let k = read-two x y b u in (written v w r, k .0, k .1)
-  acts (IC v) h b t w u r = written v w r
-  acts (DC v) h b t w u r = written v w r
-  acts (BR n c) h b t w u r = (named n t, compares c (h .1) b u)
-  acts (CL n c) h b t w u r = (named n t, compares c (h .1) b u)
-  acts RT h b t w u r = tt
-  acts E h b t w u r = tt
-  acts H h b t w u r = tt
-  acts (Hold x) h b t w u r = read-one x b u
-  acts (OE n) h b t w u r = named n t
-  acts Disarm h b t w u r = tt
-  acts (MA x) h b t w u r = read-one x b u
-  acts (MR x) h b t w u r = read-one x b u
-  acts (SL x) h b t w u r = read-one x b u
-  acts (PR x) h b t w u r = read-one x b u
+  -- what two tests leave of each of a list
+  each-of : {A : Type 0} (p q : A → Bool) (P : A → Type 0) → ((x : A) → p x ≡ false → q x ≡ false → P x) → (l : List A) → anyOf p l ≡ false → anyOf q l ≡ false → Each P l
+  each-of p q P f l e g =
+      each-then (λ x. (p x ≡ false) × (q x ≡ false)) P (λ x h. f x (h .0) (h .1)) l
+      (each-both (λ x. p x ≡ false) (λ x. q x ≡ false) l (none-each p l e) (none-each q l g))
 
   -- the statement of a line of the text is one that the check of its image accepts
   pub acceptable : (before : List Line) (s : Statement Name) → Good xs before (Acts s)
       → Acceptable (placeOf xs) (numberOf xs) (imageOf xs) (howMany makesVariable xs) s
-  unfolding bigIn undeclared unknownIn readOnlyWritten
+  unfolding undeclared unknownIn readOnlyWritten
   acceptable before s g =
       let t = neither (anyOf (λ n. not (firstMakes makesLabel n xs)) (targets s)) _ (g .known) in
       let w = neither (anyOf (unknownVariable xs) (writes s)) (anyOf (unknownValue xs) (operands s)) (t .1) in
-      acts s (g .parsed) (g .small) (t .0) (w .0) (w .1) (g .writable)
+      record {
+        reads = each-of bigValue (unknownValue xs) Reads′ known (operands s) (g .heard .1) (w .1);
+        sets = each-of (unknownVariable xs) (λ v. readOnly (paperVariable v)) Writes′ written (writes s) (w .0) (g .writable);
+        aims = each-then (λ n. not (firstMakes makesLabel n xs) ≡ false) Names′ named (targets s) (none-each (λ n. not (firstMakes makesLabel n xs)) (targets s) (t .0));
+      }

@@ -1,14 +1,15 @@
 -- Sentences of the paper that say only, one or never, about the definitions.
 -- Assumes nothing.
 use mathlib.Core.Path.{_≡_, refl}
-use mathlib.Core.Bool.{Bool, true, false, cond, _&&_, _||_, not, true≢false}
-use mathlib.Core.List.{List, [], _∷_}
+use mathlib.Core.Bool.{Bool, true, false, cond, _&&_, not}
+use mathlib.Core.List.{List, _∷_}
 use mathlib.Core.Option.{Option, none, some}
 use Prim.Native.Nat.{ℕ, suc, _-_, _≤_, _<_}
 use native.Mathlib.Omega.{arith}
 use borrow.Author.Tests.{le-leb, ltb-false}
 use lib.Dec.{leb, ltb}
 use Rattle.numbers.specs.Tests.{eqList}
+use Rattle.numbers.proofs.Truth.{neither}
 use Rattle.program.specs.Names.{Name, twoCharacters, userName}
 use Rattle.text.specs.Tokens.{Token}
 use Rattle.text.specs.Forms.{Slot, Is, New, Target, Written, Left, Right, Start, Operating, Comparing, Parts, naming, writing, operating, comparing, Taken, took, put, word, sign, takes, operatorMeant, comparisonMeant, variableName}
@@ -16,15 +17,11 @@ use Rattle.events.specs.Events.{eventAt, eventCount, badEvent, badEvents, goodE
 use Rattle.events.proofs.Scripts.{none-below}
 
 -- Events 2: in a script without a bad event turns never fall.
-right-none : (a b : Bool) → (a || b) ≡ false → b ≡ false
-right-none true b h = absurd (true≢false h)
-right-none false b h = h
-
 pub turns-rise : (s : List ℕ) (k : ℕ) → badEvents s ≡ false → suc k < eventCount s → eventAt s k .turn ≤ eventAt s (suc k) .turn
 unfolding badEvents badEvent
 turns-rise s k h l =
     let fine : badEvent s (suc k) ≡ false = none-below (badEvent s) (eventCount s) (suc k) h l in
-    let low : (leb 1 (suc k) && ltb (eventAt s (suc k) .turn) (eventAt s (suc k - 1) .turn)) ≡ false = right-none (not (goodEvent (eventAt s (suc k)))) _ fine in
+    let low : (leb 1 (suc k) && ltb (eventAt s (suc k) .turn) (eventAt s (suc k - 1) .turn)) ≡ false = neither (not (goodEvent (eventAt s (suc k)))) _ fine .1 in
     let one : leb 1 (suc k) ≡ true = le-leb 1 (suc k) (omega arith) in
     let back : suc k - 1 ≡ k = omega arith in
     let test : ltb (eventAt s (suc k) .turn) (eventAt s k .turn) ≡ false = rw (one, back) at low in

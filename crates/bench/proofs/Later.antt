@@ -7,6 +7,7 @@ use Prim.Native.Nat.{ℕ, _%_}
 use borrow.Author.Tests.{not-false, eqb-true}
 use lib.Dec.{T, eqb, leb, ltb}
 use lib.ListN.{length}
+use Rattle.numbers.proofs.Truth.{neither}
 use Rattle.numbers.specs.Tests.{allOf}
 use Rattle.image.specs.Layout.{cellCount, startValues}
 use Rattle.text.specs.Faults.{said, howMany, makesCell}
@@ -16,7 +17,6 @@ use Rattle.machine.specs.Turn.{startMachine}
 use Rattle.events.specs.Events.{eventCount, events, badScript}
 use Rattle.running.specs.Courses.{cellActs, imageCourse}
 use Rattle.rules.proofs.Scripts.{later-bytes-unused}
-use Rattle.listing.proofs.Kit as K
 use Rattle.bench.specs.Answers.{ranAs}
 use Rattle.bench.specs.Running.{runFaults, runRefusal, ran, ranInto}
 use Rattle.bench.specs.Following.{lineActs, linesCourse, textCourse, followed}
@@ -26,7 +26,7 @@ use Rattle.bench.proofs.Demands.{ran-number, run-refused}
 whole : (script : List ℕ) → badScript script ≡ false → length script % 12 ≡ 0
 unfolding badScript
 whole script e =
-    eqb-true (length script % 12) 0 (not-false (eqb (length script % 12) 0) (K.neither (not (eqb (length script % 12) 0)) (ltb 4096 (eventCount script)) e .0))
+    eqb-true (length script % 12) 0 (not-false (eqb (length script % 12) 0) (neither (not (eqb (length script % 12) 0)) (ltb 4096 (eventCount script)) e .0))
 
 -- Events 3: more behind a script, both accepted, changes neither answer nor buffer, where each event of it is at or after the turns that the run took.
 pub later-answer : (s script more : List ℕ) (budget : ℕ) (buffer : List ℕ)

@@ -10,7 +10,7 @@ use borrow.Author.Tests.{eqb-true}
 use lib.Dec.{T, eqb, leb, leb→le}
 use lib.ListN.{length, getD}
 use Rattle.numbers.specs.Tests.{allOf}
-use Rattle.program.proofs.Keys.{both, both-of}
+use Rattle.numbers.proofs.Truth.{both, both-of}
 use Rattle.text.specs.Lines.{ontoFirstLine, lines}
 use Rattle.text.specs.Tokens.{printable, tokens, uncommented}
 use Rattle.text.specs.Forms.{statement, reading}

@@ -12,6 +12,7 @@ use Rattle.program.specs.Variables.{inRange, literals, holdRange, slewRange, ra
 use Rattle.program.specs.Statements.{Value, Literal, Variable, Operator, Statement, Set, SetWith, IC, DC, BR, CL, RT, E, H, Hold, OE, Disarm, MA, MR, SL, PR}
 use Rattle.effects.specs.declared.Effect.{Effect}
 use Rattle.effects.specs.declared.Effect.the-variants.{Fails, Stores, Passes, Goes, Calls, Returns, Ends, Stays, Holds, Arms, Disarms, Moves, Slews, Prints}
+use Rattle.effects.specs.Errors.{resultOutside, divisorZero, valueOutside, noPlaceFree, noPlaceKept, stillMoving}
 use Rattle.effects.specs.Effects.{read, storing, storingResult, operate, zeroDivisor, storingWith, calling, returning, waiting, holding, moving, slewing, value, holds, printing, branching, callingIf, effect}
 
 -- What holds of the machine where a statement has an effect: a place is free for a call, one is kept for a return, a stored value is in its range.
@@ -38,29 +39,29 @@ module _ (vars : List ℤ) (kept : ℕ) where
 
   sound-storing : (v : ℕ) (z : ℤ) → Sound vars kept (storing vars v z)
   unfolding storing
-  sound-storing v z = sound-cond (inRange (rangeOf v (read vars 8) (read vars 9)) z) (Stores v z) (Fails 103) (λ e. e) tt
+  sound-storing v z = sound-cond (inRange (rangeOf v (read vars 8) (read vars 9)) z) (Stores v z) (Fails valueOutside) (λ e. e) tt
 
   sound-result : (v : ℕ) (z : ℤ) → Sound vars kept (storingResult vars v z)
   unfolding storingResult
-  sound-result v z = sound-cond (inRange literals z) (storing vars v z) (Fails 101) (λ e. sound-storing v z) tt
+  sound-result v z = sound-cond (inRange literals z) (storing vars v z) (Fails resultOutside) (λ e. sound-storing v z) tt
 
   sound-with : (v : ℕ) (o : Operator) (x y : ℤ) → Sound vars kept (storingWith vars v o x y)
   unfolding storingWith
-  sound-with v o x y = sound-cond (zeroDivisor o y) (Fails 102) (storingResult vars v (operate o x y)) (λ e. tt) (sound-result v (operate o x y))
+  sound-with v o x y = sound-cond (zeroDivisor o y) (Fails divisorZero) (storingResult vars v (operate o x y)) (λ e. tt) (sound-result v (operate o x y))
 
   sound-moving : (target : ℤ) (kind : ℕ) (z : ℤ) → Sound vars kept (moving vars target kind z)
   unfolding moving
   sound-moving target kind z =
-      sound-cond (eqZ (read vars 14) (pos 1)) (Fails 106) (cond (inRange literals target) (Moves target kind z) (Fails 101)) (λ e. tt)
-      (sound-cond (inRange literals target) (Moves target kind z) (Fails 101) (λ e. tt) tt)
+      sound-cond (eqZ (read vars 14) (pos 1)) (Fails stillMoving) (cond (inRange literals target) (Moves target kind z) (Fails resultOutside)) (λ e. tt)
+      (sound-cond (inRange literals target) (Moves target kind z) (Fails resultOutside) (λ e. tt) tt)
 
   sound-calling : (n : ℕ) → Sound vars kept (calling kept n)
   unfolding calling
-  sound-calling n = sound-cond (ltb kept 8) (Calls n) (Fails 104) (λ e. ltb-true kept 8 e) tt
+  sound-calling n = sound-cond (ltb kept 8) (Calls n) (Fails noPlaceFree) (λ e. ltb-true kept 8 e) tt
 
   sound-returning : Sound vars kept (returning kept)
   unfolding returning
-  sound-returning = sound-cond (ltb 0 kept) Returns (Fails 105) (λ e. ltb-true 0 kept e) tt
+  sound-returning = sound-cond (ltb 0 kept) Returns (Fails noPlaceKept) (λ e. ltb-true 0 kept e) tt
 
   sound-waiting : Sound vars kept (waiting vars)
   unfolding waiting
@@ -69,12 +70,12 @@ module _ (vars : List ℤ) (kept : ℕ) where
   sound-holding : (hold : ℕ) (x : ℤ) → Sound vars kept (holding hold x)
   unfolding holding
   sound-holding hold x =
-      sound-cond (ltb 0 hold) (Holds (hold - 1)) (cond (inRange holdRange x) (Holds (natAbs x - 1)) (Fails 103)) (λ e. tt)
-      (sound-cond (inRange holdRange x) (Holds (natAbs x - 1)) (Fails 103) (λ e. tt) tt)
+      sound-cond (ltb 0 hold) (Holds (hold - 1)) (cond (inRange holdRange x) (Holds (natAbs x - 1)) (Fails valueOutside)) (λ e. tt)
+      (sound-cond (inRange holdRange x) (Holds (natAbs x - 1)) (Fails valueOutside) (λ e. tt) tt)
 
   sound-slewing : (x : ℤ) → Sound vars kept (slewing x)
   unfolding slewing
-  sound-slewing x = sound-cond (inRange slewRange x) (Slews x) (Fails 103) (λ e. tt) tt
+  sound-slewing x = sound-cond (inRange slewRange x) (Slews x) (Fails valueOutside) (λ e. tt) tt
 
   module _ {R : Type 0} (place number : R → ℕ) (hold : ℕ) where
     sound-printing : (x : Value R) → Sound vars kept (printing place number vars kept hold x)

@@ -13,6 +13,7 @@ use Rattle.program.specs.Variables.{inRange, literals, holdRange, slewRange, ra
 use Rattle.program.specs.Statements.{Value, Literal, Variable, Operator, Plus, Minus, Times, Divided, BitAnd, BitOr, BitXor, Comparison, Equal, Unequal, Less, AtMost, Greater, AtLeast, Condition, Always, Compare, Statement, Set, SetWith, IC, DC, BR, CL, RT, E, H, Hold, OE, Disarm, MA, MR, SL, PR}
 use Rattle.effects.specs.declared.Effect.{Effect}
 use Rattle.effects.specs.declared.Effect.the-variants.{Fails, Stores, Passes, Goes, Calls, Returns, Ends, Stays, Holds, Arms, Disarms, Moves, Slews, Prints}
+use Rattle.effects.specs.Errors.{resultOutside, divisorZero, valueOutside, noPlaceFree, noPlaceKept, stillMoving}
 
 -- The value of a variable by its number.
 unfoldable pub read : List ℤ → ℕ → ℤ
@@ -20,11 +21,11 @@ read vars v = getD vars v (pos 0)
 
 -- Turn 21 (103), Variables 2: a value goes to a variable if it is in the variable's range; VI and VM are tested before the store.
 unfoldable pub storing : List ℤ → ℕ → ℤ → Effect
-storing vars v z = cond (inRange (rangeOf v (read vars 8) (read vars 9)) z) (Stores v z) (Fails 103)
+storing vars v z = cond (inRange (rangeOf v (read vars 8) (read vars 9)) z) (Stores v z) (Fails valueOutside)
 
 -- Turn 21 (101), Turn 22: a result outside the literal range comes before the variable's range.
 unfoldable pub storingResult : List ℤ → ℕ → ℤ → Effect
-storingResult vars v z = cond (inRange literals z) (storing vars v z) (Fails 101)
+storingResult vars v z = cond (inRange literals z) (storing vars v z) (Fails resultOutside)
 
 -- Text 17, Turn 9, Turn 10: what each operator gives; a quotient is cut toward zero.
 unfoldable pub operate : Operator → ℤ → ℤ → ℤ
@@ -48,7 +49,7 @@ zeroDivisor BitXor y = false
 
 -- Turn 21 (102), Turn 22: a zero divisor comes before both.
 unfoldable pub storingWith : List ℤ → ℕ → Operator → ℤ → ℤ → Effect
-storingWith vars v o x y = cond (zeroDivisor o y) (Fails 102) (storingResult vars v (operate o x y))
+storingWith vars v o x y = cond (zeroDivisor o y) (Fails divisorZero) (storingResult vars v (operate o x y))
 
 -- Text 17: what each comparison asks.
 unfoldable pub compares : Comparison → ℤ → ℤ → Bool
@@ -61,11 +62,11 @@ compares AtLeast x y = leZ y x
 
 -- Turn 21 (104): a call with eight places kept.
 unfoldable pub calling : ℕ → ℕ → Effect
-calling kept cell = cond (ltb kept 8) (Calls cell) (Fails 104)
+calling kept cell = cond (ltb kept 8) (Calls cell) (Fails noPlaceFree)
 
 -- Turn 14, Turn 21 (105): a return with none kept.
 unfoldable pub returning : ℕ → Effect
-returning kept = cond (ltb 0 kept) Returns (Fails 105)
+returning kept = cond (ltb 0 kept) Returns (Fails noPlaceKept)
 
 -- Turn 16: a bare `H` keeps its cell for as long as the axis moves.
 unfoldable pub waiting : List ℤ → Effect
@@ -75,17 +76,17 @@ waiting vars = cond (eqZ (read vars 14) (pos 1)) Stays Passes
 unfoldable pub holding : ℕ → ℤ → Effect
 holding hold x =
     cond (ltb 0 hold) (Holds (hold - 1))
-    (cond (inRange holdRange x) (Holds (natAbs x - 1)) (Fails 103))
+    (cond (inRange holdRange x) (Holds (natAbs x - 1)) (Fails valueOutside))
 
 -- Turn 19, Turn 21 (106, 101), Turn 22: a move to a target, recorded by this kind and value.
 unfoldable pub moving : List ℤ → ℤ → ℕ → ℤ → Effect
 moving vars target kind value =
-    cond (eqZ (read vars 14) (pos 1)) (Fails 106)
-    (cond (inRange literals target) (Moves target kind value) (Fails 101))
+    cond (eqZ (read vars 14) (pos 1)) (Fails stillMoving)
+    (cond (inRange literals target) (Moves target kind value) (Fails resultOutside))
 
 -- Turn 20, Turn 21 (103).
 unfoldable pub slewing : ℤ → Effect
-slewing x = cond (inRange slewRange x) (Slews x) (Fails 103)
+slewing x = cond (inRange slewRange x) (Slews x) (Fails valueOutside)
 
 -- What one statement does: `place` is asked only where a statement jumps, calls or arms, `number` where it reads or writes a variable.
 module _ {R : Type 0} (place number : R → ℕ) (vars : List ℤ) (kept hold : ℕ) where

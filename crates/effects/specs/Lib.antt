@@ -1,2 +1,3 @@
+pub mod Errors
 pub mod Effects
 pub mod Code

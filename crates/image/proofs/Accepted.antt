@@ -1,7 +1,7 @@
 -- What the writer makes is accepted, row by row: the trailer, and the cell of each statement whose names are there.
 -- Assumes nothing.
 use mathlib.Core.Path.{_≡_, refl, ap, _∙_}
-use mathlib.Core.Bool.{Bool, true, false, _&&_, not}
+use mathlib.Core.Bool.{Bool, true, false, _&&_, not, or-true}
 use mathlib.Core.List.{List, _++_}
 use Prim.Native.Nat.{ℕ, _+_, _*_, _≤_}
 use native.Mathlib.Omega.{arith}
@@ -13,14 +13,14 @@ use Rattle.numbers.proofs.Laws.{signed-digits}
 use Rattle.numbers.proofs.Kit.{within32}
 use Rattle.program.specs.Variables.{inRange, literals, present, readOnly, mostCells, mostLabels, mostVariables}
 use Rattle.program.specs.Cells.{cellOf, jumpOf, operandOf, noTarget, operatorNumber, comparisonNumber}
-use Rattle.program.specs.Statements.{Value, Literal, Variable, Operator, Comparison, Condition, Always, Compare, Statement, Set, SetWith, IC, DC, BR, CL, RT, E, H, Hold, OE, Disarm, MA, MR, SL, PR}
+use Rattle.program.specs.Statements.{Value, Literal, Variable, Operator, Comparison, Always, Compare, Statement, Set, SetWith, IC, DC, BR, CL, RT, E, H, Hold, OE, Disarm, MA, MR, SL, PR, compared, operands, writes, targets}
+use Rattle.program.proofs.Statements.{Refers}
 use Rattle.program.proofs.Selectors.{operator-range, comparison-range}
 use Rattle.program.specs.declared.Cell.{Cell}
 use Rattle.program.specs.declared.Operand.the-variants as O
 use Rattle.image.specs.Layout.{shape, operandNumber, cellBytes, imageLength, trailerBytes, variableCount}
 use Rattle.image.specs.Check.{badLength, badEdition, badTrailer, Use, layouts, goodWritten, goodSelector, goodOperand, goodTarget, fits, badCell}
 use Rattle.image.specs.Code.{labelled}
-use Rattle.image.proofs.Any.{or-true}
 use Rattle.image.proofs.Back.{GoodCell, shapes-apart, operation-back, written-back, selector-back, shapes-back, left-back, right-back, target-back, rest-back, length-trailed, first-label-back, cell-count-back, label-count-back, variable-count-back, edition-back, whole-length-back}
 
 -- ---- the trailer
@@ -112,27 +112,8 @@ module _ {R : Type 0} (place number : R → ℕ) (s : List ℕ) (variables : ℕ
   unfoldable pub Names : R → Type 0
   Names n = labelled s (place n) ≡ true
 
-  unfoldable pub Compares : Condition R → Type 0
-  Compares Always = Unit {0}
-  Compares (Compare x c y) = Reads x × Reads y
-
-  unfoldable pub Acceptable : Statement R → Type 0
-  Acceptable (Set v x) = Writes v × Reads x
-  Acceptable (SetWith v x o y) = Writes v × Reads x × Reads y
-  Acceptable (IC v) = Writes v
-  Acceptable (DC v) = Writes v
-  Acceptable (BR n c) = Names n × Compares c
-  Acceptable (CL n c) = Names n × Compares c
-  Acceptable RT = Unit {0}
-  Acceptable E = Unit {0}
-  Acceptable H = Unit {0}
-  Acceptable (Hold x) = Reads x
-  Acceptable (OE n) = Names n
-  Acceptable Disarm = Unit {0}
-  Acceptable (MA x) = Reads x
-  Acceptable (MR x) = Reads x
-  Acceptable (SL x) = Reads x
-  Acceptable (PR x) = Reads x
+  abbrev pub Acceptable : Statement R → Type 0
+  Acceptable st = Refers Reads Writes Names st
 
   operand-good : (x : Value R) → Reads x
       → goodOperand variables true (shape (operandOf place number x)) (operandNumber (operandOf place number x)) ≡ true
@@ -183,27 +164,27 @@ module _ {R : Type 0} (place number : R → ℕ) (s : List ℕ) (variables : ℕ
 
   -- The cell of an acceptable statement has a layout.
   pub statement-fits : (st : Statement R) → Acceptable st → anyOf (fitsCell s variables (cellOf place number st)) layouts ≡ true
-  unfolding anyOf layouts fitsCell cellOf jumpOf Acceptable Compares
-  statement-fits (Set v x) h = simp (written-good v (h .0), no-selector, operand-good x (h .1), no-operand, no-target 1)
-  statement-fits (SetWith v x o y) h = simp (written-good v (h .0), operator-good o, operand-good x (h .1), operand-good y (h .2), no-target 2)
-  statement-fits (IC v) h = simp (written-good v h, no-selector, no-operand, no-target 3)
-  statement-fits (DC v) h = simp (written-good v h, no-selector, no-operand, no-target 4)
-  statement-fits (BR n Always) h = simp (no-written, no-selector, no-operand, name-good 5 n (h .0))
+  unfolding anyOf layouts fitsCell cellOf jumpOf operands writes targets compared
+  statement-fits (Set v x) h = simp (written-good v (h .sets .0), no-selector, operand-good x (h .reads .0), no-operand, no-target 1)
+  statement-fits (SetWith v x o y) h = simp (written-good v (h .sets .0), operator-good o, operand-good x (h .reads .0), operand-good y (h .reads .1 .0), no-target 2)
+  statement-fits (IC v) h = simp (written-good v (h .sets .0), no-selector, no-operand, no-target 3)
+  statement-fits (DC v) h = simp (written-good v (h .sets .0), no-selector, no-operand, no-target 4)
+  statement-fits (BR n Always) h = simp (no-written, no-selector, no-operand, name-good 5 n (h .aims .0))
   statement-fits (BR n (Compare x c y)) h =
-      simp (no-written, comparison-good c, operand-good x (h .1 .0), operand-good y (h .1 .1), name-good 5 n (h .0), or-true)
-  statement-fits (CL n Always) h = simp (no-written, no-selector, no-operand, name-good 6 n (h .0))
+      simp (no-written, comparison-good c, operand-good x (h .reads .0), operand-good y (h .reads .1 .0), name-good 5 n (h .aims .0), or-true)
+  statement-fits (CL n Always) h = simp (no-written, no-selector, no-operand, name-good 6 n (h .aims .0))
   statement-fits (CL n (Compare x c y)) h =
-      simp (no-written, comparison-good c, operand-good x (h .1 .0), operand-good y (h .1 .1), name-good 6 n (h .0), or-true)
+      simp (no-written, comparison-good c, operand-good x (h .reads .0), operand-good y (h .reads .1 .0), name-good 6 n (h .aims .0), or-true)
   statement-fits RT h = simp (no-written, no-selector, no-operand, no-target 7)
   statement-fits E h = simp (no-written, no-selector, no-operand, no-target 8)
   statement-fits H h = simp (no-written, no-selector, no-operand, no-target 9)
-  statement-fits (Hold x) h = simp (no-written, no-selector, operand-good x h, no-operand, no-target 9, or-true)
-  statement-fits (OE n) h = simp (no-written, no-selector, no-operand, name-good 10 n h)
+  statement-fits (Hold x) h = simp (no-written, no-selector, operand-good x (h .reads .0), no-operand, no-target 9, or-true)
+  statement-fits (OE n) h = simp (no-written, no-selector, no-operand, name-good 10 n (h .aims .0))
   statement-fits Disarm h = simp (no-written, no-selector, no-operand, disarmed)
-  statement-fits (MA x) h = simp (no-written, no-selector, operand-good x h, no-operand, no-target 11)
-  statement-fits (MR x) h = simp (no-written, no-selector, operand-good x h, no-operand, no-target 12)
-  statement-fits (SL x) h = simp (no-written, no-selector, operand-good x h, no-operand, no-target 13)
-  statement-fits (PR x) h = simp (no-written, no-selector, operand-good x h, no-operand, no-target 14)
+  statement-fits (MA x) h = simp (no-written, no-selector, operand-good x (h .reads .0), no-operand, no-target 11)
+  statement-fits (MR x) h = simp (no-written, no-selector, operand-good x (h .reads .0), no-operand, no-target 12)
+  statement-fits (SL x) h = simp (no-written, no-selector, operand-good x (h .reads .0), no-operand, no-target 13)
+  statement-fits (PR x) h = simp (no-written, no-selector, operand-good x (h .reads .0), no-operand, no-target 14)
 
 -- The cell of an acceptable statement, written among other bytes, is accepted.
 pub statement-accepted : {R : Type 0} (place number : R → ℕ) (st : Statement R) (xs ys : List ℕ) (k : ℕ)

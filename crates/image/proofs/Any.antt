@@ -1,25 +1,16 @@
 -- Laws of a search: over the numbers below a bound, and over a list.
 -- Assumes nothing.
 use mathlib.Core.Path.{_≡_, refl, sym, ap, _∙_}
-use mathlib.Core.Bool.{Bool, true, false, _||_, not}
+use mathlib.Core.Bool.{Bool, true, false, not}
 use mathlib.Core.List.{List}
-use mathlib.Core.Logic.{⊎-elim}
 use Prim.Native.Nat.{ℕ, zero, suc, _+_, _≤_, _<_}
 use native.Mathlib.Numerals.{add-one}
-use native.Mathlib.Nat.{eq-or-lt-of-le, le-of-suc-le-suc}
 use native.Mathlib.Omega.{arith}
 use borrow.Author.Tests.{not-true, not-false}
 use lib.ListN.{length, getD, drop}
 use lib.Seq.{drop-cons}
 use Rattle.numbers.specs.Tests.{anyOf, anyBelow}
-
-pub or-true : (b : Bool) → (b || true) ≡ true
-or-true true = refl
-or-true false = refl
-
-pub or-assoc : (a b c : Bool) → ((a || b) || c) ≡ (a || (b || c))
-or-assoc true b c = refl
-or-assoc false b c = refl
+use Rattle.numbers.proofs.Tests.{any-below}
 
 -- What `if !t` tells of the test t that a call answered.
 pub told-false : {t b : Bool} → t ≡ b → not t ≡ true → b ≡ false
@@ -38,17 +29,8 @@ module _ (p : ℕ → Bool) (k : ℕ) where
   unfolding anyBelow
   one-more h e f = rw (add-one k, h, ← e) f
 
-  hit : (n : ℕ) → k < n → p k ≡ true → anyBelow n p ≡ true
-  unfolding anyBelow
-  hit zero l e = absurd (omega arith)
-  hit (suc n) l e =
-      ⊎-elim
-      (λ (q : k ≡ n). rw (← q, e) (or-true (anyBelow k p)))
-      (λ (q : k < n). rw (hit n q e))
-      (eq-or-lt-of-le (le-of-suc-le-suc l))
-
   pub that-is : {r : Bool} {n m : ℕ} → n ≡ m → k < n → r ≡ p k → r ≡ true → true ≡ anyBelow m p
-  that-is {n = n} q l e f = rw (← q) (sym (hit n l (sym e ∙ f)))
+  that-is {n = n} q l e f = rw (← q) (sym (any-below p n k l (sym e ∙ f)))
 
   pub all-without : {n m : ℕ} → n ≡ m → k ≤ n → n ≤ k → anyBelow k p ≡ false → false ≡ anyBelow m p
   all-without {m = m} q l l′ h = let e : k ≡ m = omega arith in sym h ∙ ap (λ (j : ℕ). anyBelow j p) e

@@ -1,7 +1,7 @@
 -- What a trailer that fits tells, and names as numbers: the tests of records on keys are those of Check on names.
 -- Assumes nothing.
 use mathlib.Core.Path.{_≡_, refl, sym, subst, ap, ap₂, _∙_}
-use mathlib.Core.Bool.{Bool, true, false, _||_, not}
+use mathlib.Core.Bool.{Bool, false, _||_, not}
 use mathlib.Core.List.{List}
 use Prim.Native.Nat.{ℕ, _+_, _*_, _^_, _≤_, _<_}
 use native.Mathlib.Omega.{arith}
@@ -12,9 +12,11 @@ use lib.ListN.{length}
 use Rattle.numbers.specs.Bytes.{bytes, number}
 use Rattle.numbers.specs.Tests.{eqList, anyOf}
 use Rattle.numbers.proofs.Laws.{Bytes, there-and-back, bytes-field, field-below}
+use Rattle.numbers.proofs.Truth.{neither, same-test}
+use Rattle.numbers.proofs.Tests.{eqList-refl, eqList-eq}
 use Rattle.program.specs.Names.{userName}
 use Rattle.program.specs.Variables.{mostCells, mostLabels, mostVariables}
-use Rattle.program.proofs.Keys.{same-test, eqList-refl, eqList-eq, user-bytes}
+use Rattle.program.proofs.Keys.{user-bytes}
 use Rattle.image.specs.Layout.{imageLength, cellCount, labelCount, variableCount, firstLabelPlace, wholeLength, labelPlace, variablePlace, nameAt}
 use Rattle.image.specs.Check.{badTrailer, layouts, fits, recordPlace, recordName, badName}
 use Rattle.image.specs.Code.{recordPlaceOf, keyOf, repeatedKey, badKey, fieldsAt, fitsOf}
@@ -28,10 +30,6 @@ pub record Fitting (s : List ℕ) : Type 0 where
   pub cells : cellCount s ≤ 256
   pub labels : labelCount s ≤ 160
   pub variables : variableCount s ≤ 32
-
-neither : (a b : Bool) → (a || b) ≡ false → (a ≡ false) × (b ≡ false)
-neither true b e = (e, cc)
-neither false b e = (refl, e)
 
 equal : (a b : ℕ) → not (eqb a b) ≡ false → a ≡ b
 equal a b e = eqb-true a b (not-false (eqb a b) e)

@@ -10,11 +10,12 @@ use lib.Dec.{T, eqb, ltb, lit<}
 use lib.ListN.{length}
 use Rattle.numbers.specs.Bytes.{field}
 use Rattle.numbers.specs.Tests.{anyOf, anyBelow, lowest, eqList}
+use Rattle.numbers.proofs.Truth.{true-is, neither}
+use Rattle.numbers.proofs.Tests.{none-below}
 use Rattle.program.specs.Names.{Name, userName}
 use Rattle.program.specs.Variables.{inRange, literals, mostCells, mostLabels, mostVariables}
 use Rattle.image.specs.Layout.{imageLength, firstLabelPlace, wholeLength, cellCount, labelCount, variableCount, labelPlace, variablePlace, startValue, nameAt}
 use Rattle.image.specs.Check.{badLength, badEdition, badTrailer, badCell, badCells, badName, badTarget, badStart, badRecords, imageFaults, checked, recordPlace, recordName, layouts, fits}
-use Rattle.listing.proofs.Kit.{true-is, neither, none-below}
 
 -- An accepted image: what the listing rests on.
 pub record Accepted (s : List ℕ) : Type 0 where
@@ -97,13 +98,13 @@ module _ (s : List ℕ) where
       let starts = anyBelow (variableCount s) (badStart s) in
       let g = neither names (targets || starts) (f .records) in
       let h = neither targets starts (g .1) in
-      let good = none-below (labelCount s + variableCount s) (badName s) (g .0) in
+      let good = none-below (badName s) (labelCount s + variableCount s) (g .0) in
       let n = few (f .trailer) in
       record {
         label-name = λ k l. subst (λ (w : Name). T (userName w)) (record-label k l) (named-record k (good k (omega arith)));
         variable-name = λ k l. subst (λ (w : Name). T (userName w)) (record-variable k) (named-record (labelCount s + k) (good (labelCount s + k) (omega arith)));
-        start-value = λ k l. started k (none-below (variableCount s) (badStart s) (h .1) k l);
-        layout = λ k l. fitted k (none-below (cellCount s) (badCell s) (f .cells) k l);
+        start-value = λ k l. started k (none-below (badStart s) (variableCount s) (h .1) k l);
+        layout = λ k l. fitted k (none-below (badCell s) (cellCount s) (f .cells) k l);
         few-cells = n .0;
         few-labels = n .1;
         few-variables = n .2;

@@ -9,7 +9,8 @@ use lib.Dec.{T, eqb}
 use Rattle.numbers.specs.Tests.{allOf, anyOf, listed, eqList}
 use Rattle.numbers.proofs.Laws.{Bytes}
 use Rattle.program.specs.Names.{Name}
-use Rattle.program.proofs.Keys.{eqList-eq}
+use Rattle.numbers.proofs.Tests.{all-listed, eqList-eq, all-append, any-append}
+use Rattle.numbers.proofs.Truth.{is-no}
 use Rattle.text.specs.Lines.{lines}
 use Rattle.text.specs.Forms.{Line, Label}
 use Rattle.text.specs.Faults.{undeclared, readOnlyWritten, fault, textFaults, firstFault, said}
@@ -18,15 +19,14 @@ use Rattle.image.specs.Check.{checked}
 use Rattle.translation.specs.Images as I
 use Rattle.listing.specs.Listing.{listing}
 use Rattle.listing.specs.Listed.{variableSays, labelSays, labelsSay, cellSays, listedLines}
-use Rattle.listing.proofs.Kit.{is-no, all-append}
-use Rattle.listing.proofs.Lists.{numbers, any-append, none-listed}
+use Rattle.listing.proofs.Lists.{numbers, none-listed}
 use Rattle.listing.proofs.Accepted.{Accepted, accepted}
 use Rattle.listing.proofs.Recorded.{Recorded, recorded, nameOfLabel, nameOfVariable}
 use Rattle.listing.proofs.Order.{front, body, front-body, cellLine}
 use Rattle.listing.proofs.Counted.{cells-counted, labels-counted, variables-counted}
 use Rattle.listing.proofs.Declaring.{declaredBy, declared-lines}
 use Rattle.listing.proofs.Named.{cell-declared, cell-writes}
-use Rattle.listing.proofs.Clear.{all-listed, all-flat, listing-clear}
+use Rattle.listing.proofs.Clear.{all-flat, listing-clear}
 use Rattle.listing.proofs.Clean.{New, new-both, Few, fine, no-fault-from}
 use Rattle.listing.proofs.Said.{listing-said}
 use Rattle.listing.proofs.Size.{listing-fits}
@@ -90,7 +90,7 @@ module _ (s : List ℕ) (a : Accepted s) (r : Recorded s) where
   unfolding variableSays undeclared readOnlyWritten
   all-fine =
       subst (λ (ys : List Line). T (allOf (fine xs) ys)) (sym (front-body s))
-      (all-append (fine xs) (front s) (body s) (all-listed (fine xs) 0 (variableCount s) (variableSays s) (λ k. tt))
+      (all-append (fine xs) (front s) (body s) (all-listed (variableSays s) (fine xs) 0 (variableCount s) (λ k h. tt))
       (all-append (fine xs) (flatMap (cellSays s) (numbers 0 (cellCount s))) (labelsSay s (cellCount s)) (cells-fine 0 (cellCount s) (omega arith)) (labels-fine (cellCount s))))
 
 -- No line of the listing has a fault.

@@ -9,14 +9,13 @@ use borrow.Author.Tests.{lt-leb}
 use lib.Dec.{T, leb}
 use Rattle.numbers.specs.Tests.{allOf, anyOf, eqList, lowest}
 use Rattle.numbers.proofs.Lists.{flat-append}
+use Rattle.numbers.proofs.Truth.{both, is-false, neither}
 use Rattle.program.specs.Names.{Name}
 use Rattle.program.specs.Variables.{mostCells, mostLabels, mostVariables}
-use Rattle.program.proofs.Keys.{both}
 use Rattle.text.specs.Forms.{Line, Blank, Label, Declared, Acts}
 use Rattle.text.specs.Faults.{longLine, badForm, bigLiteral, reservedName, heard, declares, repeated, tooMany, undeclared, readOnlyWritten, faults, fault, firstFrom, faultsFrom, howMany, makesCell, makesLabel, makesVariable}
-use Rattle.listing.proofs.Kit.{is-false, neither}
 use Rattle.listing.proofs.Clear.{faulty}
-use Rattle.listing.proofs.Counted.{count-append}
+use Rattle.names.proofs.Lines.{count-append}
 use Rattle.listing.proofs.Declaring.{declaredBy, declared-any}
 
 -- ---- names that are new

@@ -4,10 +4,11 @@ use mathlib.Core.Path.{_≡_, sym, subst}
 use mathlib.Core.Bool.{Bool, true, false, cond, _||_, not}
 use mathlib.Core.List.{List, [], _∷_, _++_, map, flatMap}
 use mathlib.Core.Option.{none, some}
-use Prim.Native.Nat.{ℕ, zero, suc}
+use Prim.Native.Nat.{ℕ}
 use lib.Dec.{T, eqb}
 use Rattle.numbers.specs.Tests.{allOf, listed}
-use Rattle.program.proofs.Keys.{both, both-of}
+use Rattle.numbers.proofs.Tests.{all-listed, all-append, all-then}
+use Rattle.numbers.proofs.Truth.{both, both-of}
 use Rattle.text.specs.Lines.{lines}
 use Rattle.text.specs.Forms.{Line, Blank, Label, Declared, Acts, reading}
 use Rattle.text.specs.Faults.{longLine, badForm, bigLiteral, reservedName, heard, said}
@@ -15,7 +16,6 @@ use Rattle.image.specs.Layout.{cellCount, labelCount, variableCount, labelPlace
 use Rattle.image.specs.Check.{checked}
 use Rattle.listing.specs.Listing.{listing}
 use Rattle.listing.specs.Listed.{variableSays, labelSays, labelsSay, cellSays, listedLines}
-use Rattle.listing.proofs.Kit.{all-append, all-then}
 use Rattle.listing.proofs.Said.{listing-said}
 
 -- A line that says something.
@@ -38,11 +38,6 @@ clear l t = go (faulty l) (elim (reading l) [ none ↦ Blank | some x ↦ x ]) t
   go false x t = tt
 
 module _ {A : Type 0} (p : A → Bool) where
-  pub all-listed : (from n : ℕ) (f : ℕ → A) → ((k : ℕ) → T (p (f k))) → T (allOf p (listed from n f))
-  unfolding allOf listed
-  all-listed from zero f h = tt
-  all-listed from (suc n) f h = both-of (p (f from)) (allOf p (listed (suc from) n f)) (h from) (all-listed (suc from) n f h)
-
   pub all-flat : (g : ℕ → List A) (ks : List ℕ) → ((k : ℕ) → T (allOf p (g k))) → T (allOf p (flatMap g ks))
   unfolding allOf flatMap
   all-flat g [] h = tt
@@ -76,7 +71,7 @@ module _ (s : List ℕ) where
       let xs = listed 0 (variableCount s) (variableSays s) in
       let ys = flatMap (cellSays s) (listed 0 (cellCount s) (λ k. k)) in
       let zs = labelsSay s (cellCount s) in
-      all-append speaking xs (ys ++ zs) (all-listed speaking 0 (variableCount s) (variableSays s) (λ k. tt))
+      all-append speaking xs (ys ++ zs) (all-listed (variableSays s) speaking 0 (variableCount s) (λ k h. tt))
       (all-append speaking ys zs (all-flat speaking (cellSays s) (listed 0 (cellCount s) (λ k. k)) cell-speaks) (labels-speak (cellCount s)))
 
 pub listing-clear : (s : List ℕ) → checked s ≡ 0 → T (allOf (λ l. not (faulty l)) (lines (listing s)))

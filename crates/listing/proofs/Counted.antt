@@ -8,6 +8,7 @@ use native.Mathlib.Omega.{arith}
 use lib.ListN.{length}
 use Rattle.text.specs.Forms.{Line}
 use Rattle.text.specs.Faults.{howMany, makesCell, makesLabel, makesVariable}
+use Rattle.names.proofs.Lines.{count-append}
 use Rattle.image.specs.Layout.{cellCount, labelCount, variableCount}
 use Rattle.listing.specs.Listed.{variableSays, labelsSay, listedLines}
 use Rattle.listing.proofs.Lists.{length-flat, flat-none}
@@ -26,15 +27,6 @@ count-tally p (x ∷ xs) = rw (count-tally p xs) (go (p x) (flatMap (tally p) xs
     go : (b : Bool) (l : List ℕ) → cond b (suc (length l)) (length l) ≡ length (cond b (0 ∷ []) [] ++ l)
     go true l = refl
     go false l = refl
-
-pub count-append : (p : Line → Bool) (xs ys : List Line) → howMany p (xs ++ ys) ≡ howMany p xs + howMany p ys
-unfolding howMany
-count-append p [] ys = omega arith
-count-append p (x ∷ xs) ys = rw (count-append p xs ys) (go (p x) (howMany p xs) (howMany p ys))
-  where
-    go : (b : Bool) (m n : ℕ) → cond b (suc (m + n)) (m + n) ≡ cond b (suc m) m + n
-    go true m n = omega arith
-    go false m n = refl
 
 -- None of the labels of a target makes a cell.
 pub labels-no-cell : (s : List ℕ) (t : ℕ) → howMany makesCell (labelsSay s t) ≡ 0

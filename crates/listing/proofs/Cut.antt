@@ -6,10 +6,9 @@ use mathlib.Core.List.{List, [], _∷_, _++_, append-assoc}
 use Prim.Native.Nat.{ℕ}
 use lib.Dec.{T, eqb}
 use Rattle.numbers.specs.Tests.{allOf}
-use Rattle.program.proofs.Keys.{both}
+use Rattle.numbers.proofs.Truth.{both, is-false}
 use Rattle.text.specs.Lines.{ontoFirstLine, lines}
 use Rattle.listing.specs.Listing.{line}
-use Rattle.listing.proofs.Kit.{is-false}
 
 -- A byte that neither ends a line nor is dropped at its end.
 abbrev pub inLine : ℕ → Bool

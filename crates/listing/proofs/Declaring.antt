@@ -1,7 +1,7 @@
 -- The names that the lines of a listing declare are those of the records, each once, the variables' first.
 -- Assumes nothing.
 use mathlib.Core.Path.{_≡_, refl, sym, subst, ap, ap₂, _∙_}
-use mathlib.Core.Bool.{Bool, true, false, cond, _||_, not}
+use mathlib.Core.Bool.{Bool, true, false, cond, _||_, not, or-true}
 use mathlib.Core.List.{List, [], _∷_, _++_, flatMap, append-nil}
 use Prim.Native.Nat.{ℕ, _+_, _≤_, _<_}
 use native.Mathlib.Omega.{arith}
@@ -9,14 +9,13 @@ use lib.Dec.{T, eqb}
 use Rattle.numbers.specs.Tests.{allOf, anyOf, listed, eqList}
 use Rattle.numbers.proofs.Lists.{flat-append}
 use Rattle.program.specs.Names.{Name}
-use Rattle.program.proofs.Keys.{both, eqList-refl, eqList-eq}
+use Rattle.numbers.proofs.Tests.{all-listed, eqList-refl, eqList-eq, all-append}
+use Rattle.numbers.proofs.Truth.{both, is-true, is-no}
 use Rattle.text.specs.Forms.{Line, Label}
 use Rattle.text.specs.Faults.{declares, declaresIt, firstMakes, makesLabel, makesVariable}
 use Rattle.image.specs.Layout.{cellCount, labelCount, variableCount, labelTarget}
-use Rattle.image.proofs.Any.{or-true}
 use Rattle.listing.specs.Listed.{variableSays, labelSays, labelsSay, cellSays, listedLines}
-use Rattle.listing.proofs.Kit.{is-true, is-no, all-append}
-use Rattle.listing.proofs.Clear.{all-listed, all-flat}
+use Rattle.listing.proofs.Clear.{all-flat}
 use Rattle.listing.proofs.Lists.{numbers, flat-one, any-flat, any-listed, none-listed}
 use Rattle.listing.proofs.Recorded.{Recorded, nameOfLabel, nameOfVariable}
 use Rattle.listing.proofs.Order.{labelLine, body, front, front-body, of-labels, only-variables}
@@ -69,7 +68,7 @@ module _ (s : List ℕ) where
   front-makes : (w : Name) → T (allOf (λ x. not (declaresIt w x) || makesVariable x) (front s))
   unfolding variableSays makesVariable
   front-makes w =
-      all-listed (λ x. not (declaresIt w x) || makesVariable x) 0 (variableCount s) (variableSays s) (λ k. rw (or-true (not (declaresIt w (variableSays s k)))) tt)
+      all-listed (variableSays s) (λ x. not (declaresIt w x) || makesVariable x) 0 (variableCount s) (λ k h. rw (or-true (not (declaresIt w (variableSays s k)))) tt)
 
   labels-make : (w : Name) (t : ℕ) → T (allOf (λ x. not (declaresIt w x) || makesLabel x) (labelsSay s t))
   unfolding labelsSay labelSays makesLabel allOf

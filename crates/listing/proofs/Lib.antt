@@ -1,4 +1,3 @@
-pub mod Kit
 pub mod Cut
 pub mod Tokens
 pub mod Literals
@@ -8,6 +7,9 @@ pub mod Rows
 pub mod Told
 pub mod Accepted
 pub mod Cells
+pub mod Resolved
+pub mod Renamed
+pub mod Sayable
 pub mod Said
 pub mod Clear
 pub mod Size
@@ -17,7 +19,6 @@ pub mod Order
 pub mod Counted
 pub mod Declaring
 pub mod Placed
-pub mod Resolved
 pub mod Named
 pub mod Pieces
 pub mod Image

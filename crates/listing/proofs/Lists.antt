@@ -1,6 +1,6 @@
 -- Laws of lists made for the numbers from one on: what is made of each, one behind the other, and which of them a test finds.
 -- Assumes nothing.
-use mathlib.Core.Path.{_≡_, refl, sym, ap, ap₂, _∙_}
+use mathlib.Core.Path.{_≡_, refl, ap, ap₂, _∙_}
 use mathlib.Core.Bool.{Bool, false, _||_}
 use mathlib.Core.List.{List, [], _∷_, _++_, flatMap, append-nil}
 use mathlib.Core.Logic.{_⊎_, inl, inr}
@@ -11,8 +11,8 @@ use lib.Dec.{T}
 use lib.ListN.{length, length-append}
 use Rattle.numbers.specs.Tests.{anyOf, listed}
 use Rattle.numbers.proofs.Lists.{flat-append}
-use Rattle.image.proofs.Any.{or-assoc}
-use Rattle.listing.proofs.Kit.{left-of, right-of}
+use Rattle.numbers.proofs.Tests.{any-append}
+use Rattle.numbers.proofs.Truth.{left-of, right-of}
 
 -- The numbers from one on.
 abbrev pub numbers : ℕ → ℕ → List ℕ
@@ -84,11 +84,6 @@ length-flat g from (suc n) e =
 
 -- A test on the elements of a list.
 module _ {A : Type 0} (p : A → Bool) where
-  pub any-append : (xs ys : List A) → anyOf p (xs ++ ys) ≡ (anyOf p xs || anyOf p ys)
-  unfolding anyOf
-  any-append [] ys = refl
-  any-append (x ∷ xs) ys = ap (λ (t : Bool). p x || t) (any-append xs ys) ∙ sym (or-assoc (p x) (anyOf p xs) (anyOf p ys))
-
   pub any-listed : (f : ℕ → A) (from n k : ℕ) → from ≤ k → k < from + n → T (p (f k)) → T (anyOf p (listed from n f))
   unfolding anyOf listed
   any-listed f from zero k l h t = absurd (omega arith)

@@ -3,30 +3,25 @@
 use mathlib.Core.Path.{_≡_, refl, ap, ap₂, _∙_}
 use mathlib.Core.Bool.{Bool, true, false, not}
 use mathlib.Core.List.{List, [], _∷_, _++_}
-use Prim.Native.Nat.{ℕ, zero, suc, _+_, _*_, _-_, _/_, _%_, _^_, _≤_, _<_}
+use Prim.Native.Nat.{ℕ, zero, suc, _+_, _-_, _/_, _%_, _^_, _≤_, _<_}
 use native.Mathlib.Nat.{pow-suc, div-add-mod', div-lt-iff-lt-mul, zero-lt-suc, mod-lt}
 use native.Mathlib.Numerals.{add-one}
 use native.Mathlib.Omega.{arith}
 use borrow.Author.Tests.{le-leb, ltb-true, ltb-false}
-use lib.Dec.{T, leb, ltb, leb→le, ltb→lt}
+use lib.Dec.{T, leb, ltb, leb→le}
 use lib.IntN.{ℤ, pos, negsuc}
 use lib.ListN.{length, length-append}
 use Rattle.numbers.specs.Bytes.{ascii}
 use Rattle.numbers.specs.Tests.{allOf, firstBelow, eqList}
+use Rattle.numbers.proofs.Truth.{both, both-of, is-true, right-of}
+use Rattle.numbers.proofs.Tests.{all-append, all-then, first-most, first-passes}
 use Rattle.program.specs.Names.{letter, digit, wordCharacter}
 use Rattle.program.specs.Variables.{inRange, literals}
-use Rattle.program.proofs.Keys.{both, both-of}
 use Rattle.text.specs.Tokens.{Token, tokens, joins, printable}
+use Rattle.text.proofs.Packing.{decimal-snoc}
 use Rattle.text.specs.Forms.{digits, decimal, literal, took}
 use Rattle.listing.specs.Listing.{printed, width, plain}
-use Rattle.listing.proofs.Kit.{is-true, right-of, all-append, all-then, first-most, first-passes}
 use Rattle.listing.proofs.Tokens.{token, follows, Stops, fine, tokens-word, tokens-sign, word-is-not, word-fine}
-
--- Digits one more at the end.
-decimal-snoc : (v : ℕ) (ds : List ℕ) (d : ℕ) → decimal v (ds ++ (d ∷ [])) ≡ decimal v ds * 10 + (d - 48)
-unfolding decimal
-decimal-snoc v [] d = refl
-decimal-snoc v (c ∷ ds) d = decimal-snoc (v * 10 + (c - 48)) ds d
 
 pub printed-length : (w n : ℕ) → length (printed w n) ≡ w
 unfolding printed
@@ -66,7 +61,7 @@ width-least n = omega arith
 
 pub width-most : (n : ℕ) → width n ≤ 10
 unfolding width
-width-most n = let h = first-most 9 (λ k. ltb n (10 ^ suc k)) in omega arith
+width-most n = let h = first-most (λ k. ltb n (10 ^ suc k)) 9 in omega arith
 
 pub width-enough : (n : ℕ) → n < 10 ^ 10 → n < 10 ^ width n
 unfolding width
@@ -75,10 +70,10 @@ width-enough n h = which (ltb first 9) refl where
   first = firstBelow 9 (λ k. ltb n (10 ^ suc k))
 
   which : (t : Bool) → ltb first 9 ≡ t → n < 10 ^ suc first
-  which true e = ltb→lt n (10 ^ suc first) (first-passes 9 (λ k. ltb n (10 ^ suc k)) (ltb-true first 9 e))
+  which true e = ltb-true n (10 ^ suc first) (first-passes (λ k. ltb n (10 ^ suc k)) 9 (ltb-true first 9 e))
   which false e =
       let l = ltb-false first 9 e in
-      let m = first-most 9 (λ k. ltb n (10 ^ suc k)) in
+      let m = first-most (λ k. ltb n (10 ^ suc k)) 9 in
       let z : first ≡ 9 = omega arith in
       rw z h
 

@@ -7,17 +7,17 @@ use Prim.Native.Nat.{ℕ, zero, suc, _+_, _-_, _≤_, _<_}
 use native.Mathlib.Decide.{decLt}
 use native.Mathlib.Nat.{add-zero, sub-zero}
 use native.Mathlib.Omega.{arith}
-use borrow.Author.Tests.{leb-false, eq-eqb, ne-eqb}
-use lib.Dec.{eqb, leb, leb→le}
+use borrow.Author.Tests.{leb-false, eq-eqb, ne-eqb, leb-true}
+use lib.Dec.{eqb, leb}
 use Rattle.numbers.specs.Tests.{listed, firstBelow}
 use Rattle.numbers.proofs.Lists.{flat-append}
+use Rattle.numbers.proofs.Tests.{first-most, first-passes, first-before}
 use Rattle.program.specs.Names.{Name}
 use Rattle.program.specs.Statements.{Statement}
 use Rattle.program.specs.Cells.{statementOf}
 use Rattle.text.specs.Forms.{Line, Label, Acts}
 use Rattle.image.specs.Layout.{cellCount, labelCount, variableCount, cellAt, labelTarget}
 use Rattle.listing.specs.Listed.{statementNamed, variableSays, labelSays, labelsSay, cellSays, listedLines}
-use Rattle.listing.proofs.Kit.{first-most, first-passes, first-before}
 use Rattle.listing.proofs.Lists.{numbers, flat-flat, flat-same, flat-none, flat-middle, flat-listed, listed-append}
 use Rattle.listing.proofs.Recorded.{Recorded, nameOfLabel}
 
@@ -46,16 +46,16 @@ start s t = firstBelow (labelCount s) (λ k. leb t (labelTarget s k))
 module _ (s : List ℕ) (r : Recorded s) where
   start-most : (t : ℕ) → start s t ≤ labelCount s
   unfolding start
-  start-most t = first-most (labelCount s) (λ k. leb t (labelTarget s k))
+  start-most t = first-most (λ k. leb t (labelTarget s k)) (labelCount s)
 
   earlier : (t k : ℕ) → k < start s t → labelTarget s k < t
   unfolding start
-  earlier t k h = leb-false t (labelTarget s k) (first-before (labelCount s) (λ j. leb t (labelTarget s j)) k h)
+  earlier t k h = leb-false t (labelTarget s k) (first-before (λ j. leb t (labelTarget s j)) (labelCount s) k h)
 
   later : (t k : ℕ) → start s t ≤ k → k < labelCount s → t ≤ labelTarget s k
   unfolding start
   later t k h l =
-      let a = leb→le t (labelTarget s (start s t)) (first-passes (labelCount s) (λ j. leb t (labelTarget s j)) (omega arith)) in
+      let a = leb-true t (labelTarget s (start s t)) (first-passes (λ j. leb t (labelTarget s j)) (labelCount s) (omega arith)) in
       let b = r .rising (start s t) k h l in
       omega arith
 

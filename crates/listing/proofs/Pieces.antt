@@ -14,11 +14,11 @@ use Rattle.numbers.specs.Bytes.{bytes, field}
 use Rattle.numbers.specs.Bits.{signed32}
 use Rattle.numbers.specs.Tests.{listed}
 use Rattle.numbers.proofs.Laws.{Bytes, bytes-field, field-below, digits-signed}
+use Rattle.numbers.proofs.Truth.{both, either}
+use Rattle.numbers.proofs.Tests.{from-some}
 use Rattle.program.specs.Variables.{inRange, literals, present}
-use Rattle.program.proofs.Keys.{both, either}
 use Rattle.image.specs.Layout.{shape, operandNumber, cellBytes, labelBytes, variableBytes, trailerBytes, imageLength, trailerPlace, firstLabelPlace, cellCount, labelCount, variableCount, edition, wholeLength, operandAt, cellAt, labelPlace, labelTarget, variablePlace, startValue, nameAt}
 use Rattle.image.specs.Check.{Use, layouts, fits, goodOperand}
-use Rattle.listing.proofs.Kit.{from-some}
 use Rattle.listing.proofs.Lists.{numbers}
 use Rattle.listing.proofs.Accepted.{Accepted}
 use Rattle.listing.proofs.Cells.{Fit, fitting}

@@ -1,26 +1,27 @@
 -- In the lines of a listing a label has the place of its target, a variable its number.
 -- Assumes nothing.
 use mathlib.Core.Path.{_≡_, refl, sym, subst, ap, _∙_}
-use mathlib.Core.Bool.{Bool, true, false, cond, _&&_, _||_, not}
+use mathlib.Core.Bool.{Bool, true, false, cond, _||_, not}
 use mathlib.Core.List.{List, [], _∷_, _++_, flatMap, append-assoc, append-nil}
-use mathlib.Core.Logic.{_⊎_, inl, inr, ⊎-elim}
+use mathlib.Core.Logic.{_⊎_, inl, inr}
 use Prim.Native.Nat.{ℕ, zero, suc, _+_, _-_, _≤_, _<_}
 use native.Mathlib.Nat.{eq-or-lt-of-le}
 use native.Mathlib.Omega.{arith}
 use borrow.Author.Tests.{eq-eqb, eqb-true, ne-eqb, lt-ltb, le-ltb}
-use lib.Dec.{T, eqb, leb, ltb, leb→le, ltb→lt, eqb→eq}
+use lib.Dec.{T, eqb, eqb→eq}
 use lib.ListN.{getD}
 use Rattle.numbers.specs.Bytes.{ascii}
 use Rattle.numbers.specs.Tests.{anyOf, allBelow, anyBelow, firstBelow, listed, eqList, numbered}
 use Rattle.program.specs.Names.{Name, variableNames, paperVariable, reserved, twoCharacters, userName, mnemonics}
 use Rattle.program.specs.Variables.{present}
-use Rattle.program.proofs.Keys.{both, either, eqList-refl, eqList-eq}
 use Rattle.text.specs.Forms.{Line, Label}
 use Rattle.text.specs.Faults.{declares, declaresIt, howMany, makesCell, makesVariable, placeOf, rankOf, numberOf}
 use Rattle.image.specs.Layout.{cellCount, labelCount, variableCount, labelTarget}
+use Rattle.numbers.proofs.Tests.{all-below, eqList-refl, eqList-eq, first-found, first-passes}
+use Rattle.numbers.proofs.Truth.{both, is-true, is-false, is-no, left-of}
+use Rattle.program.proofs.Ranges.{by-present}
 use Rattle.listing.specs.Listing.{variableName, labelName}
 use Rattle.listing.specs.Listed.{variableSays, labelSays, labelsSay, cellSays, listedLines}
-use Rattle.listing.proofs.Kit.{is-true, is-false, is-no, left-of, first-found, first-passes}
 use Rattle.listing.proofs.Lists.{numbers, any-flat, any-listed, none-listed}
 use Rattle.listing.proofs.Accepted.{Accepted}
 use Rattle.listing.proofs.Recorded.{Recorded, nameOfLabel, nameOfVariable}
@@ -124,8 +125,8 @@ pub target-placed : (s : List ℕ) (r : Recorded s) (t : ℕ) → T (anyBelow (l
 unfolding labelName
 target-placed s r t h =
     let p : ℕ → Bool = λ k. eqb (labelTarget s k) t in
-    let l = first-found (labelCount s) p h in
-    label-placed s r (firstBelow (labelCount s) p) l ∙ eqb→eq (labelTarget s (firstBelow (labelCount s) p)) t (first-passes (labelCount s) p l)
+    let l = first-found p (labelCount s) h in
+    label-placed s r (firstBelow (labelCount s) p) l ∙ eqb-true (labelTarget s (firstBelow (labelCount s) p)) t (first-passes p (labelCount s) l)
 
 -- ---- numbers
 
@@ -171,36 +172,20 @@ user-no-paper w t =
     go false false e = absurd (subst T e tt)
 
 -- The paper's names have their places in the table.
-all-below : (n : ℕ) (p : ℕ → Bool) → T (allBelow n p) → (k : ℕ) → k < n → T (p k)
-unfolding allBelow
-all-below zero p t k h = absurd (omega arith)
-all-below (suc n) p t k h =
-    let c = both (allBelow n p) (p n) t in
-    go (eq-or-lt-of-le (omega arith)) (c .1) (all-below n p (c .0) k)
-  where
-    go : (k ≡ n) ⊎ (k < n) → T (p n) → (k < n → T (p k)) → T (p k)
-    go (inl e) t f = rw e t
-    go (inr i) t f = f i
-
 pub paper-numbered : (i : ℕ) → i < 20 → paperVariable (getD variableNames i []) ≡ suc i
 unfolding paperVariable variableNames ascii numbered eqList allBelow
-paper-numbered i h = eqb→eq (paperVariable (getD variableNames i [])) (suc i) (all-below 20 (λ j. eqb (paperVariable (getD variableNames j [])) (suc j)) tt i h)
+paper-numbered i h = eqb→eq (paperVariable (getD variableNames i [])) (suc i) (all-below (λ j. eqb (paperVariable (getD variableNames j [])) (suc j)) 20 tt i h)
 
 -- A variable that is there is found again by its name.
 pub variable-numbered : (s : List ℕ) (a : Accepted s) (r : Recorded s) (v : ℕ) → T (present (variableCount s) v) → numberOf (listedLines s) (variableName s v) ≡ v
 unfolding variableName numberOf
 variable-numbered s a r v t =
-    ⊎-elim
-    (λ p. let q = both (leb 1 v) (leb v 20) p in
-    let l = leb→le 1 v (q .0) in
-    let m = leb→le v 20 (q .1) in
+    by-present (variableCount s) v t
+    (λ l m.
     let e = paper-numbered (v - 1) (omega arith) in
     let f : suc (v - 1) ≡ v = omega arith in
     rw (lt-ltb v 32 (omega arith), e, f, ne-eqb v 0 (λ z. omega arith)))
-    (λ p. let q = both (leb 32 v) (ltb v (32 + variableCount s)) p in
-    let l = leb→le 32 v (q .0) in
-    let m = ltb→lt v (32 + variableCount s) (q .1) in
+    (λ l m.
     let e = user-no-paper (nameOfVariable s (v - 32)) (a .variable-name (v - 32) (omega arith)) in
     let k = variable-ranked s r (v - 32) (omega arith) in
     rw (le-ltb v 32 l, e, k) (omega arith))
-    (either (leb 1 v && leb v 20) (leb 32 v && ltb v (32 + variableCount s)) t)

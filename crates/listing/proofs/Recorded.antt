@@ -13,13 +13,13 @@ use lib.Dec.{T, eqb, leb, ltb}
 use lib.ListN.{length}
 use Rattle.numbers.specs.Bytes.{field}
 use Rattle.numbers.specs.Tests.{anyBelow, eqList}
+use Rattle.numbers.proofs.Tests.{eqList-refl, none-below}
+use Rattle.numbers.proofs.Truth.{neither}
 use Rattle.program.specs.Names.{Name, userName}
 use Rattle.program.specs.Variables.{inRange, literals}
-use Rattle.program.proofs.Keys.{eqList-refl}
 use Rattle.image.specs.Layout.{imageLength, firstLabelPlace, wholeLength, edition, cellCount, labelCount, variableCount, labelPlace, labelTarget, variablePlace, startValue, nameAt}
 use Rattle.image.specs.Check.{badEdition, badName, badTarget, badStart, badRecords, checked, recordName}
 use Rattle.image.proofs.Records as R
-use Rattle.listing.proofs.Kit.{neither, none-below}
 use Rattle.listing.proofs.Accepted.{faultless, record-label, record-variable}
 
 -- The names of the records.
@@ -50,7 +50,7 @@ module _ (s : List ℕ) where
     unfolding badName
     below j k l h e =
         let n = neither (not (userName (recordName s k))) (anyBelow k (λ i. eqList (recordName s i) (recordName s k))) (good k h) .1 in
-        let f : eqList (recordName s j) (recordName s k) ≡ false = none-below k (λ i. eqList (recordName s i) (recordName s k)) n j l in
+        let f : eqList (recordName s j) (recordName s k) ≡ false = none-below (λ i. eqList (recordName s i) (recordName s k)) k n j l in
         subst T f (subst (λ (w : Name). T (eqList (recordName s j) w)) e (eqList-refl (recordName s j)))
 
     once : (j k : ℕ) → j < labelCount s + variableCount s → k < labelCount s + variableCount s → recordName s j ≡ recordName s k → j ≡ k
@@ -105,8 +105,8 @@ module _ (s : List ℕ) where
       let starts = anyBelow (variableCount s) (badStart s) in
       let g = neither names (targets || starts) (f .records) in
       let h = neither targets starts (g .1) in
-      let named = none-below (labelCount s + variableCount s) (badName s) (g .0) in
-      let aimed = none-below (labelCount s) (badTarget s) (h .0) in
+      let named = none-below (badName s) (labelCount s + variableCount s) (g .0) in
+      let aimed = none-below (badTarget s) (labelCount s) (h .0) in
       let t = R.fitting s (f .trailer) in
       record {
         size = sized t;
@@ -122,5 +122,5 @@ module _ (s : List ℕ) where
             omega arith;
         rising = rise aimed;
         inside = within aimed;
-        zeros = λ k l. zeroed k (none-below (variableCount s) (badStart s) (h .1) k l);
+        zeros = λ k l. zeroed k (none-below (badStart s) (variableCount s) (h .1) k l);
       }

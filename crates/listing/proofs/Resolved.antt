@@ -12,16 +12,18 @@ use Rattle.numbers.specs.Bytes.{field}
 use Rattle.numbers.specs.Bits.{signed32}
 use Rattle.numbers.specs.Tests.{anyOf, anyBelow}
 use Rattle.program.specs.Variables.{inRange, literals, present, readOnly}
-use Rattle.program.specs.Statements.{Value, Literal, Variable, Condition, Always, Compare, Statement, Set, SetWith, IC, DC, BR, CL, RT, E, H, Hold, OE, Disarm, MA, MR, SL, PR}
+use Rattle.program.specs.Statements.{Value, Literal, Variable, Statement, compared, operands, writes, targets}
 use Rattle.program.specs.Cells.{noTarget, cell, same, operandOf, jumpOf, cellOf, valueOf, conditionOf, holdOf, statementBy, statementOf}
 use Rattle.program.specs.declared.Cell.{Cell}
 use Rattle.program.specs.declared.Operand.{Operand}
 use Rattle.program.specs.declared.Operand.the-variants as O
-use Rattle.program.proofs.Keys.{both, either}
+use Rattle.numbers.proofs.Truth.{both, either}
+use Rattle.numbers.proofs.Tests.{from-any}
+use Rattle.program.proofs.Statements.{Refers}
 use Rattle.program.proofs.Selectors.{operator-number, comparison-number}
 use Rattle.image.specs.Layout.{labelCount, variableCount, cellAt, operandAt, labelTarget}
 use Rattle.image.specs.Check.{Use, uses, layouts, fits, goodWritten, goodSelector, goodOperand, goodTarget}
-use Rattle.listing.proofs.Cells.{from-any, Fit, fitting}
+use Rattle.listing.proofs.Cells.{Fit, fitting}
 
 -- A statement of an image: what it writes is there and not read-only, what it reads is there, what it names has a label.
 module _ (s : List ℕ) where
@@ -29,38 +31,19 @@ module _ (s : List ℕ) where
   Written v = T (present (variableCount s) v) × T (not (readOnly v))
 
   abbrev pub Read : Value ℕ → Type 0
-  Read (Literal z) = Unit {0}
+  Read (Literal z) = T (inRange literals z)
   Read (Variable v) = T (present (variableCount s) v)
 
   abbrev pub Aimed : ℕ → Type 0
   Aimed n = T (anyBelow (labelCount s) (λ k. eqb (labelTarget s k) n))
 
-  abbrev pub Compared : Condition ℕ → Type 0
-  Compared Always = Unit {0}
-  Compared (Compare x c y) = Read x × Read y
-
   abbrev pub Resolved : Statement ℕ → Type 0
-  Resolved (Set v x) = Written v × Read x
-  Resolved (SetWith v x o y) = Written v × Read x × Read y
-  Resolved (IC v) = Written v
-  Resolved (DC v) = Written v
-  Resolved (BR n c) = Aimed n × Compared c
-  Resolved (CL n c) = Aimed n × Compared c
-  Resolved RT = Unit {0}
-  Resolved E = Unit {0}
-  Resolved H = Unit {0}
-  Resolved (Hold x) = Read x
-  Resolved (OE n) = Aimed n
-  Resolved Disarm = Unit {0}
-  Resolved (MA x) = Read x
-  Resolved (MR x) = Read x
-  Resolved (SL x) = Read x
-  Resolved (PR x) = Read x
+  Resolved a = Refers Read Written Aimed a
 
   -- An operand that is there.
   abbrev Used : Operand → Type 0
   Used O.Nothing = ⊥
-  Used (O.Literal z) = Unit {0}
+  Used (O.Literal z) = T (inRange literals z)
   Used (O.Variable v) = T (present (variableCount s) v)
 
   -- A cell that is that of its statement.
@@ -77,88 +60,88 @@ module _ (s : List ℕ) where
   operand-read : (o : Operand) → Used o → Read (valueOf o)
   unfolding valueOf
   operand-read O.Nothing u = absurd u
-  operand-read (O.Literal z) u = tt
+  operand-read (O.Literal z) u = u
   operand-read (O.Variable v) u = u
 
   -- Each layout.
   set-stands : (v : ℕ) (l : Operand) → Written v → Used l → Stands (cell 1 v 0 l O.Nothing 0)
-  unfolding statementOf statementBy cellOf
-  set-stands v l w u = record { resolved = (w, operand-read l u); again = rw (operand-again l u) }
+  unfolding operands writes targets compared statementOf statementBy cellOf
+  set-stands v l w u = record { resolved = record { reads = (operand-read l u, tt); sets = (w, tt); aims = tt }; again = rw (operand-again l u) }
 
   set-with-stands : (v o : ℕ) (l r : Operand) → Written v → (1 ≤ o) × (o ≤ 7) → Used l → Used r → Stands (cell 2 v o l r 0)
-  unfolding statementOf statementBy cellOf
+  unfolding operands writes targets compared statementOf statementBy cellOf
   set-with-stands v o l r w h u t =
-      record { resolved = (w, operand-read l u, operand-read r t); again = rw (operand-again l u, operand-again r t, operator-number o (h .0) (h .1)) }
+      record { resolved = record { reads = (operand-read l u, (operand-read r t, tt)); sets = (w, tt); aims = tt }; again = rw (operand-again l u, operand-again r t, operator-number o (h .0) (h .1)) }
 
   IC-stands : (v : ℕ) → Written v → Stands (cell 3 v 0 O.Nothing O.Nothing 0)
-  unfolding statementOf statementBy cellOf
-  IC-stands v w = record { resolved = w; again = refl }
+  unfolding operands writes targets compared statementOf statementBy cellOf
+  IC-stands v w = record { resolved = record { reads = tt; sets = (w, tt); aims = tt }; again = refl }
 
   DC-stands : (v : ℕ) → Written v → Stands (cell 4 v 0 O.Nothing O.Nothing 0)
-  unfolding statementOf statementBy cellOf
-  DC-stands v w = record { resolved = w; again = refl }
+  unfolding operands writes targets compared statementOf statementBy cellOf
+  DC-stands v w = record { resolved = record { reads = tt; sets = (w, tt); aims = tt }; again = refl }
 
   BR-stands : (n : ℕ) → Aimed n → Stands (cell 5 0 0 O.Nothing O.Nothing n)
-  unfolding statementOf statementBy conditionOf cellOf jumpOf
-  BR-stands n a = record { resolved = (a, tt); again = refl }
+  unfolding operands writes targets compared statementOf statementBy conditionOf cellOf jumpOf
+  BR-stands n a = record { resolved = record { reads = tt; sets = tt; aims = (a, tt) }; again = refl }
 
   CL-stands : (n : ℕ) → Aimed n → Stands (cell 6 0 0 O.Nothing O.Nothing n)
-  unfolding statementOf statementBy conditionOf cellOf jumpOf
-  CL-stands n a = record { resolved = (a, tt); again = refl }
+  unfolding operands writes targets compared statementOf statementBy conditionOf cellOf jumpOf
+  CL-stands n a = record { resolved = record { reads = tt; sets = tt; aims = (a, tt) }; again = refl }
 
   BR-if-stands : (n c : ℕ) (l r : Operand) → Aimed n → (1 ≤ c) × (c ≤ 6) → Used l → Used r → Stands (cell 5 0 c l r n)
-  unfolding statementOf statementBy conditionOf cellOf jumpOf
+  unfolding operands writes targets compared statementOf statementBy conditionOf cellOf jumpOf
   BR-if-stands n c l r a h u t = record {
-    resolved = rw (ne-eqb c 0 (λ e. omega arith)) (a, (operand-read l u, operand-read r t));
+    resolved = rw (ne-eqb c 0 (λ e. omega arith)) (record { reads = (operand-read l u, (operand-read r t, tt)); sets = tt; aims = (a, tt) });
     again = rw (ne-eqb c 0 (λ e. omega arith)) (rw (operand-again l u, operand-again r t, comparison-number c (h .0) (h .1)));
   }
 
   CL-if-stands : (n c : ℕ) (l r : Operand) → Aimed n → (1 ≤ c) × (c ≤ 6) → Used l → Used r → Stands (cell 6 0 c l r n)
-  unfolding statementOf statementBy conditionOf cellOf jumpOf
+  unfolding operands writes targets compared statementOf statementBy conditionOf cellOf jumpOf
   CL-if-stands n c l r a h u t = record {
-    resolved = rw (ne-eqb c 0 (λ e. omega arith)) (a, (operand-read l u, operand-read r t));
+    resolved = rw (ne-eqb c 0 (λ e. omega arith)) (record { reads = (operand-read l u, (operand-read r t, tt)); sets = tt; aims = (a, tt) });
     again = rw (ne-eqb c 0 (λ e. omega arith)) (rw (operand-again l u, operand-again r t, comparison-number c (h .0) (h .1)));
   }
 
   RT-stands : Stands (cell 7 0 0 O.Nothing O.Nothing 0)
-  unfolding statementOf statementBy cellOf
-  RT-stands = record { resolved = tt; again = refl }
+  unfolding operands writes targets compared statementOf statementBy cellOf
+  RT-stands = record { resolved = record { reads = tt; sets = tt; aims = tt }; again = refl }
 
   E-stands : Stands (cell 8 0 0 O.Nothing O.Nothing 0)
-  unfolding statementOf statementBy cellOf
-  E-stands = record { resolved = tt; again = refl }
+  unfolding operands writes targets compared statementOf statementBy cellOf
+  E-stands = record { resolved = record { reads = tt; sets = tt; aims = tt }; again = refl }
 
   H-stands : Stands (cell 9 0 0 O.Nothing O.Nothing 0)
-  unfolding statementOf statementBy holdOf cellOf
-  H-stands = record { resolved = tt; again = refl }
+  unfolding operands writes targets compared statementOf statementBy holdOf cellOf
+  H-stands = record { resolved = record { reads = tt; sets = tt; aims = tt }; again = refl }
 
   hold-stands : (l : Operand) → Used l → Stands (cell 9 0 0 l O.Nothing 0)
-  unfolding statementOf statementBy holdOf cellOf operandOf
+  unfolding operands writes targets compared statementOf statementBy holdOf cellOf operandOf
   hold-stands O.Nothing u = absurd u
-  hold-stands (O.Literal z) u = record { resolved = tt; again = refl }
-  hold-stands (O.Variable v) u = record { resolved = u; again = refl }
+  hold-stands (O.Literal z) u = record { resolved = record { reads = (u, tt); sets = tt; aims = tt }; again = refl }
+  hold-stands (O.Variable v) u = record { resolved = record { reads = (u, tt); sets = tt; aims = tt }; again = refl }
 
   MA-stands : (l : Operand) → Used l → Stands (cell 11 0 0 l O.Nothing 0)
-  unfolding statementOf statementBy cellOf
-  MA-stands l u = record { resolved = operand-read l u; again = rw (operand-again l u) }
+  unfolding operands writes targets compared statementOf statementBy cellOf
+  MA-stands l u = record { resolved = record { reads = (operand-read l u, tt); sets = tt; aims = tt }; again = rw (operand-again l u) }
 
   MR-stands : (l : Operand) → Used l → Stands (cell 12 0 0 l O.Nothing 0)
-  unfolding statementOf statementBy cellOf
-  MR-stands l u = record { resolved = operand-read l u; again = rw (operand-again l u) }
+  unfolding operands writes targets compared statementOf statementBy cellOf
+  MR-stands l u = record { resolved = record { reads = (operand-read l u, tt); sets = tt; aims = tt }; again = rw (operand-again l u) }
 
   SL-stands : (l : Operand) → Used l → Stands (cell 13 0 0 l O.Nothing 0)
-  unfolding statementOf statementBy cellOf
-  SL-stands l u = record { resolved = operand-read l u; again = rw (operand-again l u) }
+  unfolding operands writes targets compared statementOf statementBy cellOf
+  SL-stands l u = record { resolved = record { reads = (operand-read l u, tt); sets = tt; aims = tt }; again = rw (operand-again l u) }
 
   PR-stands : (l : Operand) → Used l → Stands (cell 14 0 0 l O.Nothing 0)
-  unfolding statementOf statementBy cellOf
-  PR-stands l u = record { resolved = operand-read l u; again = rw (operand-again l u) }
+  unfolding operands writes targets compared statementOf statementBy cellOf
+  PR-stands l u = record { resolved = record { reads = (operand-read l u, tt); sets = tt; aims = tt }; again = rw (operand-again l u) }
 
   -- OE of a label, or of none.
   armed : (n : ℕ) (b : Bool) → eqb n noTarget ≡ b → T (goodTarget s 10 true n) → Stands (cell 10 0 0 O.Nothing O.Nothing n)
-  unfolding goodTarget statementOf statementBy cellOf
-  armed n true e t = record { resolved = rw e tt; again = rw e (rw (eqb-true n noTarget e)) }
-  armed n false e t = record { resolved = rw e (rw e at t); again = rw e }
+  unfolding operands writes targets compared goodTarget statementOf statementBy cellOf
+  armed n true e t = record { resolved = rw e (record { reads = tt; sets = tt; aims = tt }); again = rw e (rw (eqb-true n noTarget e)) }
+  armed n false e t = record { resolved = rw e (record { reads = tt; sets = tt; aims = (rw e at t, tt) }); again = rw e }
 
   -- What a layout tells of the fields.
   written-there : (v : ℕ) → T (goodWritten (variableCount s) true v) → Written v
@@ -170,7 +153,7 @@ module _ (s : List ℕ) where
   used shape place t =
       let n = field 4 place s in
       ⊎-elim
-      (λ p. let e = eqb→eq shape 1 (both (eqb shape 1) (inRange literals (signed32 n)) p .0) in rw e tt)
+      (λ p. let q = both (eqb shape 1) (inRange literals (signed32 n)) p in let e = eqb→eq shape 1 (q .0) in rw e (q .1))
       (λ p. let q = both (eqb shape 2) (present (variableCount s) n) p in let e = eqb→eq shape 2 (q .0) in rw e (q .1))
       (either (eqb shape 1 && inRange literals (signed32 n)) (eqb shape 2 && present (variableCount s) n) t)
 
@@ -227,9 +210,9 @@ module _ (s : List ℕ) where
         → T (fits s (16 * k) u) → Stands at
     fit u h t = let f = fitting s (16 * k) u t in subst Stands (sym (by-use u f)) (h f)
 
-    writes : T (goodWritten (variableCount s) true (field 1 (16 * k + 1) s)) → Written (at .written)
+    wrote : T (goodWritten (variableCount s) true (field 1 (16 * k + 1) s)) → Written (at .written)
     unfolding cellAt
-    writes t = written-there (field 1 (16 * k + 1) s) t
+    wrote t = written-there (field 1 (16 * k + 1) s) t
 
     left : T (goodOperand (variableCount s) true (field 1 (16 * k + 3) s % 4) (field 4 (16 * k + 4) s)) → Used (at .left)
     unfolding cellAt
@@ -256,13 +239,13 @@ module _ (s : List ℕ) where
     unfolding layouts
     stands t =
         from-any (fits s (16 * k)) (Stands at) layouts (
-          fit (uses 1 true 0 true false false) (λ f. set-stands (at .written) (at .left) (writes (f .written)) (left (f .left))),
+          fit (uses 1 true 0 true false false) (λ f. set-stands (at .written) (at .left) (wrote (f .written)) (left (f .left))),
           (
-            fit (uses 2 true 7 true true false) (λ f. set-with-stands (at .written) (at .selector) (at .left) (at .right) (writes (f .written)) (chooses 7 refl (f .selector)) (left (f .left)) (right (f .right))),
+            fit (uses 2 true 7 true true false) (λ f. set-with-stands (at .written) (at .selector) (at .left) (at .right) (wrote (f .written)) (chooses 7 refl (f .selector)) (left (f .left)) (right (f .right))),
             (
-              fit (uses 3 true 0 false false false) (λ f. IC-stands (at .written) (writes (f .written))),
+              fit (uses 3 true 0 false false false) (λ f. IC-stands (at .written) (wrote (f .written))),
               (
-                fit (uses 4 true 0 false false false) (λ f. DC-stands (at .written) (writes (f .written))),
+                fit (uses 4 true 0 false false false) (λ f. DC-stands (at .written) (wrote (f .written))),
                 (
                   fit (uses 5 false 0 false false true) (λ f. BR-stands (at .target) (aims 5 refl (f .target))),
                   (

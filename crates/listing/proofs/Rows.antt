@@ -9,13 +9,13 @@ use lib.IntN.{ℤ, pos, negsuc}
 use lib.ListN.{drop}
 use Rattle.numbers.specs.Bytes.{ascii}
 use Rattle.numbers.specs.Tests.{eqList, numbered}
+use Rattle.numbers.proofs.Tests.{eqList-refl}
+use Rattle.numbers.proofs.Truth.{is-true}
 use Rattle.program.specs.Names.{Name, letter, digit, wordCharacter, twoCharacters, userName, paperVariable, reserved, mnemonics, variableNames}
 use Rattle.program.specs.Variables.{inRange, literals}
 use Rattle.program.specs.Statements.{Value, Literal, Variable, Condition, Always, Compare, Statement, Set, SetWith, IC, DC, BR, CL, H, Hold, OE, Disarm, MA, MR, SL, PR, Operator, Comparison}
-use Rattle.program.proofs.Keys.{eqList-refl}
 use Rattle.text.specs.Tokens.{Token}
 use Rattle.text.specs.Forms.{Label, Declared, Acts, operatorSign, comparisonSign, variableName, Slot, Is, New, Target, Written, Left, Right, Start, Operating, Comparing, Parts, noParts, naming, writing, onLeft, operating, comparing, onRight, starting, put, word, sign, takes, fill, Form, form, forms, byForm, statement}
-use Rattle.listing.proofs.Kit.{is-true}
 use Rattle.listing.proofs.Tokens.{token}
 use Rattle.listing.proofs.Literals.{literalTokens, literal-read}
 use Rattle.listing.proofs.Values.{Sound, valueTokens, operand-read, variable-is-not}

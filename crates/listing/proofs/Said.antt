@@ -24,7 +24,7 @@ use Rattle.listing.proofs.Tokens.{fine-in-line}
 use Rattle.listing.proofs.Values.{valueTold}
 use Rattle.listing.proofs.Told.{conditionTold, told, Heard, hears-statement, hears-label, hears-declared}
 use Rattle.listing.proofs.Accepted.{Accepted, accepted}
-use Rattle.listing.proofs.Cells.{sayable}
+use Rattle.listing.proofs.Sayable.{sayable}
 
 -- Whatever follows it, a text says these lines first; and it has at most 33 bytes for each of them, the LF with them.
 pub record Says (text : List ℕ) (xs : List Line) : Type 0 where

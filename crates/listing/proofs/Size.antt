@@ -11,6 +11,7 @@ use lib.Dec.{eqb}
 use lib.ListN.{length, length-append}
 use Rattle.numbers.specs.Tests.{listed}
 use Rattle.program.specs.Cells.{statementOf}
+use Rattle.numbers.proofs.Tests.{length-listed}
 use Rattle.text.specs.Forms.{Label, Acts}
 use Rattle.text.specs.Faults.{overlong}
 use Rattle.image.specs.Layout.{cellCount, labelCount, variableCount, cellAt, labelPlace, labelTarget, nameAt}
@@ -41,11 +42,6 @@ sum-both from (suc n) f g h e = let i = sum-both (suc from) n f g h e in let j =
 sum-none : (from n : ℕ) (f : ℕ → ℕ) → ((t : ℕ) → from ≤ t → f t ≡ 0) → sum from n f ≡ 0
 sum-none from zero f e = refl
 sum-none from (suc n) f e = let i = sum-none (suc from) n f (λ t h. e t (omega arith)) in let j = e from (omega arith) in omega arith
-
-length-listed : {A : Type 0} (from n : ℕ) (f : ℕ → A) → length (listed from n f) ≡ n
-unfolding listed
-length-listed from zero f = refl
-length-listed from (suc n) f = ap suc (length-listed (suc from) n f)
 
 module _ (s : List ℕ) where
   -- A label stands before one target at most.
@@ -93,12 +89,12 @@ module _ (s : List ℕ) where
       let zs = labelsSay s (cellCount s) in
       let a = length-append xs (ys ++ zs) in
       let b = length-append ys zs in
-      let c = length-listed 0 (variableCount s) (variableSays s) in
+      let c = length-listed (variableSays s) 0 (variableCount s) in
       let d = told-cells 0 (cellCount s) in
       let e = sum-more 0 (cellCount s) (λ t. length (labelsSay s t)) in
       let m = ap (λ (t : ℕ). length (labelsSay s t)) (zero-add (cellCount s)) in
       let f = told-labels (listed 0 (labelCount s) (λ k. k)) 0 (suc (cellCount s)) in
-      let g = length-listed 0 (labelCount s) (λ k. k) in
+      let g = length-listed (λ k. k) 0 (labelCount s) in
       omega arith
 
 -- At most 448 lines of at most 33 bytes.

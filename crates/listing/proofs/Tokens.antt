@@ -10,10 +10,10 @@ use borrow.Author.Tests.{ne-eqb, le-leb}
 use lib.Dec.{T, T-not, eqb, leb, leb→le}
 use lib.ListN.{length, getD}
 use Rattle.numbers.specs.Tests.{allOf}
+use Rattle.numbers.proofs.Truth.{both, either, is-true, is-false}
+use Rattle.numbers.proofs.Tests.{all-then}
 use Rattle.program.specs.Names.{letter, digit, wordCharacter}
-use Rattle.program.proofs.Keys.{both, either}
 use Rattle.text.specs.Tokens.{Token, tokens, joins, ontoFirstToken, printable, uncommented}
-use Rattle.listing.proofs.Kit.{is-true, is-false, all-then}
 use Rattle.listing.proofs.Cut.{inLine}
 
 abbrev pub token : List ℕ → Bool → Token

@@ -4,7 +4,7 @@ use mathlib.Core.Path.{_≡_, refl, ap, subst, _∙_}
 use mathlib.Core.Bool.{false}
 use mathlib.Core.List.{List, [], _∷_, _++_, append-nil}
 use mathlib.Core.Option.{some}
-use Prim.Native.Nat.{ℕ, _+_, _-_, _≤_}
+use Prim.Native.Nat.{ℕ, _+_, _≤_}
 use native.Mathlib.Omega.{arith}
 use borrow.Author.Tests.{le-ltb}
 use lib.Dec.{T, ltb, lit≤}
@@ -12,16 +12,19 @@ use lib.IntN.{ℤ}
 use lib.ListN.{length, length-append}
 use Rattle.numbers.specs.Bytes.{ascii}
 use Rattle.numbers.specs.Tests.{allOf, anyOf}
+use Rattle.numbers.proofs.Tests.{Each, each-then, each-none, all-append}
+use Rattle.numbers.proofs.Truth.{is-true}
 use Rattle.program.specs.Names.{Name, letter, digit, wordCharacter, reserved, userName}
 use Rattle.program.specs.Variables.{inRange, literals}
-use Rattle.program.specs.Statements.{Value, Literal, Variable, Condition, Always, Compare, Statement, Set, SetWith, IC, DC, BR, CL, RT, E, H, Hold, OE, Disarm, MA, MR, SL, PR, operands, compared, Operator}
+use Rattle.program.specs.Statements.{Value, Literal, Variable, Condition, Always, Compare, Statement, Set, SetWith, IC, DC, BR, CL, RT, E, H, Hold, OE, Disarm, MA, MR, SL, PR, operands, writes, targets, compared, Operator}
+use Rattle.program.proofs.Keys.{user-two}
+use Rattle.program.proofs.Statements.{Refers}
 use Rattle.text.specs.Tokens.{Token, tokens, joins, ontoFirstToken, printable, uncommented}
 use Rattle.text.specs.Forms.{Line, Label, Declared, Acts, operatorSign, comparisonSign, variableName, statement, reading}
 use Rattle.text.specs.Faults.{longLine, badForm, tooBig, bigValue, bigIn, bigLiteral, declares, reservedName, heard}
 use Rattle.listing.specs.Listing.{plain}
-use Rattle.listing.proofs.Kit.{is-true, all-append}
 use Rattle.listing.proofs.Tokens.{token, follows, Stops, fine, fine-printable, fine-uncommented}
-use Rattle.listing.proofs.Values.{spelt, spelling, Spelt, user-two, user-free, user-spelt, variable-spelt, tokens-name, name-fine, valueTold, Sound, valueTokens, tokens-value, value-fine, value-length, Starts, value-starts}
+use Rattle.listing.proofs.Values.{spelt, spelling, Spelt, user-free, user-spelt, variable-spelt, tokens-name, name-fine, valueTold, Sound, valueTokens, tokens-value, value-fine, value-length, Starts, value-starts}
 use Rattle.listing.proofs.Signs.{Sign, equals, comma, operator-sign, comparison-sign}
 use Rattle.listing.proofs.Rows.{table, says-LB, says-VA, says-IC, says-DC, says-BR, says-CL, says-OE, says-BR-if, says-CL-if, says-MA, says-MR, says-SL, says-PR, says-hold, says-set, says-set-with}
 
@@ -154,36 +157,35 @@ conditionTold Always = []
 conditionTold (Compare x c y) = ascii "," ++ (valueTold x ++ (comparisonSign c ++ valueTold y))
 
 abbrev pub Fair : Condition Name → Type 0
-Fair Always = Unit {0}
-Fair (Compare x c y) = Sound x × Sound y
+Fair c = Each Sound (compared c)
 
 pub reads-BR : (n : Name) (c : Condition Name) → T (userName n) → Fair c → Printed (ascii "BR " ++ (n ++ conditionTold c)) (Acts (BR n c))
-unfolding letters
+unfolding letters compared
 reads-BR n Always t f =
     printed (ascii "BR " ++ (n ++ [])) (Acts (BR n Always)) (part-mnemonic (ascii "BR") tt (part-name part-end n (user-spelt n t) refl)) (lit≤ tt)
     (says-BR n false false t)
 reads-BR n (Compare x c y) t f =
     let w : Name = comparisonSign c in
     let g = comparison-sign c in
-    let p = part-value (part-sign (value-last y (f .1)) w g (starts-last y (f .1))) x (f .0) (g .stops (valueTold y)) in
+    let p = part-value (part-sign (value-last y (f .1 .0)) w g (starts-last y (f .1 .0))) x (f .0) (g .stops (valueTold y)) in
     let q = part-sign p (ascii ",") comma (value-starts x (w ++ valueTold y) (f .0)) in
     let r = part-name q n (user-spelt n t) (comma .stops (valueTold x ++ (w ++ valueTold y))) in
     printed (ascii "BR " ++ (n ++ conditionTold (Compare x c y))) (Acts (BR n (Compare x c y))) (part-mnemonic (ascii "BR") tt r) (lit≤ tt)
-    (says-BR-if n x c y false _ _ _ _ false t (f .0) (f .1))
+    (says-BR-if n x c y false _ _ _ _ false t (f .0) (f .1 .0))
 
 pub reads-CL : (n : Name) (c : Condition Name) → T (userName n) → Fair c → Printed (ascii "CL " ++ (n ++ conditionTold c)) (Acts (CL n c))
-unfolding letters
+unfolding letters compared
 reads-CL n Always t f =
     printed (ascii "CL " ++ (n ++ [])) (Acts (CL n Always)) (part-mnemonic (ascii "CL") tt (part-name part-end n (user-spelt n t) refl)) (lit≤ tt)
     (says-CL n false false t)
 reads-CL n (Compare x c y) t f =
     let w : Name = comparisonSign c in
     let g = comparison-sign c in
-    let p = part-value (part-sign (value-last y (f .1)) w g (starts-last y (f .1))) x (f .0) (g .stops (valueTold y)) in
+    let p = part-value (part-sign (value-last y (f .1 .0)) w g (starts-last y (f .1 .0))) x (f .0) (g .stops (valueTold y)) in
     let q = part-sign p (ascii ",") comma (value-starts x (w ++ valueTold y) (f .0)) in
     let r = part-name q n (user-spelt n t) (comma .stops (valueTold x ++ (w ++ valueTold y))) in
     printed (ascii "CL " ++ (n ++ conditionTold (Compare x c y))) (Acts (CL n (Compare x c y))) (part-mnemonic (ascii "CL") tt r) (lit≤ tt)
-    (says-CL-if n x c y false _ _ _ _ false t (f .0) (f .1))
+    (says-CL-if n x c y false _ _ _ _ false t (f .0) (f .1 .0))
 
 pub reads-OE : (n : Name) → T (userName n) → Printed (ascii "OE " ++ n) (Acts (OE n))
 unfolding letters
@@ -250,42 +252,27 @@ told (SL x) = ascii "SL " ++ valueTold x
 told (PR x) = ascii "PR " ++ valueTold x
 
 abbrev pub Sayable : Statement Name → Type 0
-Sayable (Set v x) = T (variableName v) × Sound x
-Sayable (SetWith v x o y) = T (variableName v) × Sound x × Sound y
-Sayable (IC v) = T (variableName v)
-Sayable (DC v) = T (variableName v)
-Sayable (BR n c) = T (userName n) × Fair c
-Sayable (CL n c) = T (userName n) × Fair c
-Sayable RT = Unit {0}
-Sayable E = Unit {0}
-Sayable H = Unit {0}
-Sayable (Hold x) = Sound x
-Sayable (OE n) = T (userName n)
-Sayable Disarm = Unit {0}
-Sayable (MA x) = Sound x
-Sayable (MR x) = Sound x
-Sayable (SL x) = Sound x
-Sayable (PR x) = Sound x
+Sayable a = Refers Sound (λ (v : Name). T (variableName v)) (λ (n : Name). T (userName n)) a
 
 -- Every statement that a text can have is read back from its line.
 pub reads-statement : (a : Statement Name) → Sayable a → Printed (told a) (Acts a)
-unfolding told
-reads-statement (Set v x) h = reads-set v x (h .0) (h .1)
-reads-statement (SetWith v x o y) h = reads-set-with v x o y (h .0) (h .1) (h .2)
-reads-statement (IC v) h = reads-IC v h
-reads-statement (DC v) h = reads-DC v h
-reads-statement (BR n c) h = reads-BR n c (h .0) (h .1)
-reads-statement (CL n c) h = reads-CL n c (h .0) (h .1)
+unfolding told operands writes targets compared
+reads-statement (Set v x) h = reads-set v x (h .sets .0) (h .reads .0)
+reads-statement (SetWith v x o y) h = reads-set-with v x o y (h .sets .0) (h .reads .0) (h .reads .1 .0)
+reads-statement (IC v) h = reads-IC v (h .sets .0)
+reads-statement (DC v) h = reads-DC v (h .sets .0)
+reads-statement (BR n c) h = reads-BR n c (h .aims .0) (h .reads)
+reads-statement (CL n c) h = reads-CL n c (h .aims .0) (h .reads)
 reads-statement RT h = reads-RT
 reads-statement E h = reads-E
 reads-statement H h = reads-H
-reads-statement (Hold x) h = reads-hold x h
-reads-statement (OE n) h = reads-OE n h
+reads-statement (Hold x) h = reads-hold x (h .reads .0)
+reads-statement (OE n) h = reads-OE n (h .aims .0)
 reads-statement Disarm h = reads-disarm
-reads-statement (MA x) h = reads-MA x h
-reads-statement (MR x) h = reads-MR x h
-reads-statement (SL x) h = reads-SL x h
-reads-statement (PR x) h = reads-PR x h
+reads-statement (MA x) h = reads-MA x (h .reads .0)
+reads-statement (MR x) h = reads-MR x (h .reads .0)
+reads-statement (SL x) h = reads-SL x (h .reads .0)
+reads-statement (PR x) h = reads-PR x (h .reads .0)
 
 -- None of its literals is too big.
 sound-small : (x : Value Name) → Sound x → bigValue x ≡ false
@@ -293,37 +280,8 @@ unfolding bigValue tooBig
 sound-small (Literal z) h = rw (is-true (inRange literals z) h)
 sound-small (Variable w) h = refl
 
-one-small : (x : Value Name) → Sound x → anyOf bigValue (x ∷ []) ≡ false
-unfolding anyOf
-one-small x h = rw (sound-small x h)
-
-two-small : (x y : Value Name) → Sound x → Sound y → anyOf bigValue (x ∷ y ∷ []) ≡ false
-unfolding anyOf
-two-small x y h k = rw (sound-small x h, sound-small y k)
-
-compared-small : (c : Condition Name) → Fair c → anyOf bigValue (compared c) ≡ false
-unfolding anyOf compared
-compared-small Always f = refl
-compared-small (Compare x c y) f = two-small x y (f .0) (f .1)
-
 small : (a : Statement Name) → Sayable a → anyOf bigValue (operands a) ≡ false
-unfolding anyOf operands
-small (Set v x) h = one-small x (h .1)
-small (SetWith v x o y) h = two-small x y (h .1) (h .2)
-small (IC v) h = refl
-small (DC v) h = refl
-small (BR n c) h = compared-small c (h .1)
-small (CL n c) h = compared-small c (h .1)
-small RT h = refl
-small E h = refl
-small H h = refl
-small (Hold x) h = one-small x h
-small (OE n) h = refl
-small Disarm h = refl
-small (MA x) h = one-small x h
-small (MR x) h = one-small x h
-small (SL x) h = one-small x h
-small (PR x) h = one-small x h
+small a h = each-none bigValue (operands a) (each-then Sound (λ (x : Value Name). bigValue x ≡ false) sound-small (operands a) (h .reads))
 
 -- A line of a listing: its bytes, and that it is heard as what it tells.
 pub record Heard (l : List ℕ) (x : Line) : Type 0 where

@@ -5,7 +5,7 @@ use mathlib.Core.Bool.{Bool, true, false, _&&_, not}
 use mathlib.Core.List.{List, [], _∷_, _++_}
 use mathlib.Core.Logic.{⊎-elim}
 use mathlib.Core.Option.{none, some}
-use Prim.Native.Nat.{ℕ, zero, suc, _≤_, _<_}
+use Prim.Native.Nat.{ℕ, _≤_, _<_}
 use native.Mathlib.Omega.{arith}
 use lib.Dec.{T, T-not, eqb, leb, leb→le, eqb→eq}
 use lib.IntN.{pos, negsuc}
@@ -15,11 +15,12 @@ use Rattle.numbers.specs.Tests.{allOf, eqList, numbered}
 use Rattle.program.specs.Names.{Name, letter, digit, wordCharacter, variableNames, paperVariable, reserved, twoCharacters, userName}
 use Rattle.program.specs.Variables.{inRange, literals}
 use Rattle.program.specs.Statements.{Value, Literal, Variable}
-use Rattle.program.proofs.Keys.{both, both-of, either, eqList-eq}
+use Rattle.numbers.proofs.Truth.{not-same, both, both-of, either, is-true, is-false, is-no, left-of}
+use Rattle.numbers.proofs.Tests.{eqList-eq, all-then, numbered-all}
+use Rattle.program.proofs.Keys.{user-two}
 use Rattle.text.specs.Tokens.{Token, tokens}
 use Rattle.text.specs.Forms.{digits, literal, variableName, variable, operand, took, put, word}
 use Rattle.listing.specs.Listing.{plain}
-use Rattle.listing.proofs.Kit.{is-true, is-false, is-no, left-of, all-then, numbered-all}
 use Rattle.listing.proofs.Tokens.{token, follows, Stops, fine, tokens-word, word-is-not, word-fine}
 use Rattle.listing.proofs.Literals.{literalTokens, literal-read, tokens-literal, literal-fine, literal-length, figures, figures-word, figures-some}
 
@@ -61,10 +62,6 @@ two-spelt (a ∷ b ∷ c ∷ w) t =
     absurd (omega arith)
 
 -- A name of the user's has two characters, is free, and is spelt so.
-pub user-two : (w : Name) → T (userName w) → T (twoCharacters w)
-unfolding userName
-user-two w t = both (twoCharacters w) (not (reserved w)) t .0
-
 pub user-free : (w : Name) → T (userName w) → reserved w ≡ false
 unfolding userName
 user-free w t = is-false (reserved w) (both (twoCharacters w) (not (reserved w)) t .1)
@@ -72,15 +69,11 @@ user-free w t = is-false (reserved w) (both (twoCharacters w) (not (reserved w))
 pub user-spelt : (w : Name) → T (userName w) → Spelt w
 user-spelt w t = two-spelt w (user-two w t)
 
-not-zero : (n : ℕ) → T (not (eqb n 0)) → n ≡ 0 → ⊥
-not-zero zero t e = t
-not-zero (suc n) t e = omega arith
-
 pub variable-spelt : (w : Name) → T (variableName w) → Spelt w
 unfolding variableName paperVariable variableNames ascii allOf wordCharacter letter digit
 variable-spelt w t =
     ⊎-elim
-    (λ p. spelling w (numbered-all spelt variableNames w tt (not-zero (paperVariable w) p)))
+    (λ p. spelling w (numbered-all spelt variableNames w tt (not-same (paperVariable w) 0 p)))
     (λ u. user-spelt w u)
     (either (not (eqb (paperVariable w) 0)) (userName w) t)
 

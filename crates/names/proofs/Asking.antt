@@ -8,14 +8,16 @@ use native.Mathlib.Omega.{arith}
 use borrow.Author.Tests.{eq-eqb, ne-eqb}
 use lib.Dec.{eqb}
 use Rattle.numbers.specs.Tests.{anyOf, lowest}
+use Rattle.numbers.proofs.Tests.{each-then}
 use Rattle.program.specs.Names.{Name, paperVariable}
 use Rattle.program.specs.Code.{key, nameOf}
 use Rattle.program.specs.Cells as Cells
-use Rattle.program.specs.Cells.{cellOf, jumpOf, noTarget}
+use Rattle.program.specs.Cells.{cellOf, noTarget}
 use Rattle.program.specs.Statements as Said
-use Rattle.program.specs.Statements.{Literal, Variable, Always, Compare, Statement, operands, compared, Set, SetWith, IC, DC, BR, CL, RT, E, H, Hold, OE, Disarm, MA, MR, SL, PR}
+use Rattle.program.specs.Statements.{Literal, Variable, Statement, operands}
 use Rattle.program.specs.declared.Operand.{Operand}
 use Rattle.program.specs.declared.Operand.the-variants as O
+use Rattle.program.proofs.Statements.{cell-has, both-read}
 use Rattle.program.proofs.Keys.{key-below}
 use Rattle.text.specs.Forms.{Line, Blank, Label, Declared, Acts}
 use Rattle.text.specs.Faults.{said, heard, declaresIt, firstMakes, makesLabel, unknownVariable, faults}
@@ -92,25 +94,10 @@ operand-keyed (Literal z) k = tt
 operand-keyed (Variable v) k = key-below (variable-word v k)
 
 statement-keyed : (s : Statement Name) → Named s → Keyed (cellOf key key s)
-unfolding cellOf jumpOf operands compared
-statement-keyed (Set v x) h = record { left = operand-keyed x (h .reads .0); right = tt }
-statement-keyed (SetWith v x o y) h = record { left = operand-keyed x (h .reads .0); right = operand-keyed y (h .reads .1 .0) }
-statement-keyed (IC v) h = record { left = tt; right = tt }
-statement-keyed (DC v) h = record { left = tt; right = tt }
-statement-keyed (BR n Always) h = record { left = tt; right = tt }
-statement-keyed (BR n (Compare x c y)) h = record { left = operand-keyed x (h .reads .0); right = operand-keyed y (h .reads .1 .0) }
-statement-keyed (CL n Always) h = record { left = tt; right = tt }
-statement-keyed (CL n (Compare x c y)) h = record { left = operand-keyed x (h .reads .0); right = operand-keyed y (h .reads .1 .0) }
-statement-keyed RT h = record { left = tt; right = tt }
-statement-keyed E h = record { left = tt; right = tt }
-statement-keyed H h = record { left = tt; right = tt }
-statement-keyed (Hold x) h = record { left = operand-keyed x (h .reads .0); right = tt }
-statement-keyed (OE n) h = record { left = tt; right = tt }
-statement-keyed Disarm h = record { left = tt; right = tt }
-statement-keyed (MA x) h = record { left = operand-keyed x (h .reads .0); right = tt }
-statement-keyed (MR x) h = record { left = operand-keyed x (h .reads .0); right = tt }
-statement-keyed (SL x) h = record { left = operand-keyed x (h .reads .0); right = tt }
-statement-keyed (PR x) h = record { left = operand-keyed x (h .reads .0); right = tt }
+statement-keyed s h =
+    let k = each-then Known (λ (x : Said.Value Name). KeyOperand (Cells.operandOf key key x)) operand-keyed (operands s) (h .reads) in
+    let b = both-read key key KeyOperand tt (cell-has key key s .read) k in
+    record { left = b .0; right = b .1 }
 
 line-keyed : (x : Line) → Fine x → Keyed (saidBy x .cell)
 unfolding saidBy

@@ -1,7 +1,7 @@
 -- Names sought by their keys are names sought by their characters.
 -- Assumes nothing.
 use mathlib.Core.Path.{_≡_, refl, sym, ap, _∙_}
-use mathlib.Core.Bool.{Bool, true, false, cond, _&&_, _||_, not, or-false}
+use mathlib.Core.Bool.{Bool, true, false, cond, _&&_, _||_, not, or-false, true≢false, and-eq-true-iff}
 use mathlib.Core.List.{List, [], _∷_, _++_, map}
 use Prim.Native.Nat.{ℕ, suc, _+_, _-_, _≤_}
 use native.Mathlib.Omega.{arith}
@@ -10,6 +10,8 @@ use borrow.Author.Tests.{eqb-true, eqb-false}
 use lib.Dec.{eqb}
 use lib.ListN.{length, take, drop}
 use Rattle.numbers.specs.Tests.{eqList, anyOf, lowest}
+use Rattle.numbers.proofs.Truth.{eqb-turn}
+use Rattle.numbers.proofs.Tests.{Each}
 use Rattle.program.specs.Names.{Name}
 use Rattle.program.specs.Code.{key, nameOf}
 use Rattle.program.proofs.Keys.{name-key, eq-name, user-word}
@@ -19,20 +21,16 @@ use Rattle.text.specs.Faults.{heard, said, declares, declaresIt, makesLabel, ma
 use Rattle.text.specs.Code.{saidBy, readingOf, LineAt}
 use Rattle.text.specs.declared.Span.{Span}
 use Rattle.text.specs.declared.forms.Reading.{Reading}
-use Rattle.text.proofs.Heard.{Fine, heard-fine, cell-kind, label-kind, variable-kind, eqb-turn, reading-kind, reading-name, line-fault}
+use Rattle.text.proofs.Heard.{Fine, heard-fine, cell-kind, label-kind, variable-kind, reading-kind, reading-name, line-fault}
 use Rattle.names.specs.declared.Found.{Found}
 use Rattle.names.specs.declared.heads.Head.{Head}
 use Rattle.names.specs.Code.{found, declaring, plus, headOf, declaredIn, kindFrom, foundFrom, DeclaredAs, FoundAt}
 use Rattle.names.proofs.Openings.{declaring-head, fine-head}
 use Rattle.names.proofs.Lines.{said-next, said-end, few-said, few-places, few-ranks}
 
-never : true ≡ false → ⊥
-never e = let q : _≡_ {A = ℕ} 0 1 = cc in omega arith
-
 -- What is known of each line.
 abbrev pub AllFine : List Line → Type 0
-AllFine [] = Unit {0}
-AllFine (x ∷ xs) = Fine x × AllFine xs
+AllFine xs = Each Fine xs
 
 pub all-fine : (ls : List (List ℕ)) → AllFine (map heard ls)
 all-fine [] = tt
@@ -107,10 +105,6 @@ found-is k (x ∷ xs) c v f =
     (found-is k xs (plus (eqb (saidBy x .kind) 3) c) (plus (eqb (saidBy x .kind) 2) v) (f .1))
 
 -- A line that declares the name has a head that says so.
-both-true : (a b : Bool) → (a && b) ≡ true → (a ≡ true) × (b ≡ true)
-both-true true b e = (refl, e)
-both-true false b e = absurd (never (sym e))
-
 pub no-head : (l : List ℕ) (k : ℕ) (h : Head) → h ≡ headOf l → (declaring (h .kind) && eqb (h .name) k) ≡ false → 0 ≡ declaredIn l k
 unfolding declaredIn
 no-head l k h e t = pick (declaring (readingOf l .kind) && eqb (readingOf l .name) k) refl
@@ -118,9 +112,9 @@ no-head l k h e t = pick (declaring (readingOf l .kind) && eqb (readingOf l .nam
     pick : (b : Bool) → (declaring (readingOf l .kind) && eqb (readingOf l .name) k) ≡ b → 0 ≡ cond b (readingOf l .kind) 0
     pick false p = refl
     pick true p =
-        let q = both-true _ _ p in
+        let q = and-eq-true-iff _ _ .0 p in
         let d = declaring-head l (q .0) in
-        absurd (never (sym p ∙ (rw (e, d .0, d .1) at t)))
+        absurd (true≢false (sym p ∙ (rw (e, d .0, d .1) at t)))
 
 -- What seeking has found at a place of a text, by the line there.
 module _ (s : List ℕ) (at k : ℕ) (r : Span) (l : LineAt s at r) where
@@ -147,7 +141,7 @@ module _ (s : List ℕ) (at k : ℕ) (r : Span) (l : LineAt s at r) where
         where
           go : (t : Bool) → (declaring n && b) ≡ t → more ≡ cond t n more
           go false p = refl
-          go true p = absurd (never (sym p ∙ zero-test (rw p at q)))
+          go true p = absurd (true≢false (sym p ∙ zero-test (rw p at q)))
             where
               zero-test : n ≡ 0 → (declaring n && b) ≡ false
               zero-test w = rw w
@@ -206,8 +200,7 @@ found-at s k f e =
 
 -- In a text without a fault no line has one of its own.
 abbrev pub AllClear : List (List ℕ) → Type 0
-AllClear [] = Unit {0}
-AllClear (l ∷ ls) = (readingOf l .fault ≡ 0) × AllClear ls
+AllClear ls = Each (λ (l : List ℕ). readingOf l .fault ≡ 0) ls
 
 clear-line : (text before : List Line) (l : List ℕ) → lowest 2 (faults text before l) ≡ 0 → readingOf l .fault ≡ 0
 clear-line text before l e = pick (eqb (readingOf l .fault) 0) refl

@@ -77,17 +77,24 @@ unfolding rankOf
 few-ranks w [] = omega arith
 few-ranks w (x ∷ xs) = step-few (declaresIt w x) (makesVariable x) (rankOf xs w) (length xs) (few-ranks w xs)
 
+-- Lines that pass a test are counted over two texts one behind the other.
+pub count-append : (p : Line → Bool) (xs ys : List Line) → howMany p (xs ++ ys) ≡ howMany p xs + howMany p ys
+unfolding howMany
+count-append p [] ys = omega arith
+count-append p (x ∷ xs) ys = rw (count-append p xs ys) (go (p x) (howMany p xs) (howMany p ys))
+  where
+    go : (b : Bool) (m n : ℕ) → cond b (suc (m + n)) (m + n) ≡ cond b (suc m) m + n
+    go true m n = omega arith
+    go false m n = refl
+
 -- Counting one line more at the end.
 pub count-more : (p : Line → Bool) (xs : List Line) (x : Line) → howMany p (xs ++ (x ∷ [])) ≡ plus (p x) (howMany p xs)
 unfolding howMany plus
-count-more p [] x = refl
-count-more p (y ∷ ys) x = rw (count-more p ys x) (swap (p y) (p x) (howMany p ys))
+count-more p xs x = count-append p xs (x ∷ []) ∙ go (p x) (howMany p xs)
   where
-    swap : (a b : Bool) (n : ℕ) → cond a (suc (cond b (suc n) n)) (cond b (suc n) n) ≡ cond b (suc (cond a (suc n) n)) (cond a (suc n) n)
-    swap true true n = refl
-    swap true false n = refl
-    swap false true n = refl
-    swap false false n = refl
+    go : (b : Bool) (n : ℕ) → n + cond b 1 0 ≡ cond b (suc n) n
+    go true n = omega arith
+    go false n = omega arith
 
 pub counted-more : (xs : List Line) (x : Line) → counted (countsOf xs) (saidBy x .kind) ≡ countsOf (xs ++ (x ∷ []))
 unfolding counted countsOf

@@ -1,7 +1,7 @@
 -- How the bytes of a line begin, by what the line says: a name is declared where the first two words are a mnemonic and the name.
 -- Assumes nothing.
 use mathlib.Core.Path.{_≡_, refl, sym, ap, ap₂, subst, _∙_}
-use mathlib.Core.Bool.{Bool, true, false, cond, _&&_, _||_, not}
+use mathlib.Core.Bool.{Bool, true, false, cond, _&&_, _||_, not, true≢false}
 use mathlib.Core.List.{List, [], _∷_, _++_}
 use mathlib.Core.Option.{Option, none, some}
 use Prim.Native.Nat.{ℕ, suc, _+_, _*_, _<_, _≤_}
@@ -13,10 +13,12 @@ use lib.ListN.{length, take, drop, getD, drop-of-length-le}
 use lib.Seq.{drop-cons, drop-drop}
 use Rattle.numbers.specs.Bytes.{ascii, number, field}
 use Rattle.numbers.specs.Tests.{eqList, numbered, allOf, anyOf, lowest}
+use Rattle.numbers.proofs.Truth.{both}
+use Rattle.numbers.proofs.Tests.{eqList-eq}
 use Rattle.program.specs.Names.{Name, letter, digit, wordCharacter, mnemonics, variableNames, paperVariable, reserved, twoCharacters, userName}
 use Rattle.program.specs.Code.{key}
 use Rattle.program.specs.Statements.{Statement}
-use Rattle.program.proofs.Keys.{both, eqList-eq, IsWord, single, double}
+use Rattle.program.proofs.Keys.{IsWord, single, double}
 use Rattle.text.specs.Forms as Form
 use Rattle.text.specs.Forms.{Line, Blank, Label, Declared, Acts, variableName, Parts, noParts, naming, Slot, Is, New, Written, Start, put, word, takes, fill, form, forms, byForm, statement, reading}
 use Rattle.text.specs.Faults.{longLine, badForm, bigLiteral, reservedName, bigIn, declares, heard}
@@ -27,9 +29,6 @@ use Rattle.text.proofs.Rows.{HoldsAt, Filled, done, step, nothing, started, fil
 use Rattle.text.specs.Tokens.{printable, Token, uncommented, joins, ontoFirstToken, tokens}
 use Rattle.text.proofs.Packing.{joins-space}
 use Rattle.names.specs.Code.{spaces, head, kindBy, keyAfter, headBy, headOf, declaring}
-
-never : true ≡ false → ⊥
-never e = let q : _≡_ {A = ℕ} 0 1 = cc in omega arith
 
 -- One character at a time: the comment, the tokens, the spaces.
 module _ (c : ℕ) (cs : List ℕ) where
@@ -64,11 +63,11 @@ module _ (c : ℕ) (cs : List ℕ) where
 -- A character that belongs to the next one has no space behind it.
 joined-next : (c : ℕ) (cs : List ℕ) → joins c (getD (uncommented cs) 0 32) ≡ true → drop (spaces cs) cs ≡ cs
 unfolding uncommented
-joined-next c [] h = absurd (never (sym h ∙ joins-space c))
+joined-next c [] h = absurd (true≢false (sym h ∙ joins-space c))
 joined-next c (d ∷ ds) h = pick (eqb d 32) refl
   where
     pick : (b : Bool) → eqb d 32 ≡ b → drop (spaces (d ∷ ds)) (d ∷ ds) ≡ d ∷ ds
-    pick true e = let f : d ≡ 32 = eqb-true d 32 e in absurd (never (sym (rw f at h) ∙ joins-space c))
+    pick true e = let f : d ≡ 32 = eqb-true d 32 e in absurd (true≢false (sym (rw f at h) ∙ joins-space c))
     pick false e = rw (spaces-none d ds e)
 
 -- The first token of a line stands behind its spaces, and the others are those of the rest.
@@ -315,7 +314,7 @@ some-token (d ∷ ds) c e h = pick (joins c d) (eqb d 32) refl refl (λ f. some-
   where
     pick : (x y : Bool) → joins c d ≡ x → eqb d 32 ≡ y → (eqb d 32 ≡ false → tokens (d ∷ ds) ≡ [] → ⊥) → ⊥
     pick false y j f ih = nothing-first (sym (sym (token-alone c (d ∷ ds) e j) ∙ h))
-    pick true true j f ih = let g : d ≡ 32 = eqb-true d 32 f in never (sym (rw g at j) ∙ joins-space c)
+    pick true true j f ih = let g : d ≡ 32 = eqb-true d 32 f in true≢false (sym (rw g at j) ∙ joins-space c)
     pick true false j f ih = longer-some c (tokens (d ∷ ds)) (ih f) (sym (token-longer c (d ∷ ds) e j) ∙ h)
 
 comment-head : (c : ℕ) (cs : List ℕ) → c ≡ 39 → headOf (c ∷ cs) .kind ≡ 0
@@ -353,7 +352,7 @@ pub record Headed (l : List ℕ) (x : Line) : Type 0 where
 
 headed : {x : Line} {ts : List Token} (l : List ℕ) → Opening x ts → tokens (uncommented l) ≡ ts → Headed l x
 unfolding saidBy declaring headOf headBy kindBy number ascii
-headed l blank e = record { kind = blank-head l e; name = λ d. absurd (never (sym d)) }
+headed l blank e = record { kind = blank-head l e; name = λ d. absurd (true≢false (sym d)) }
 headed l (label {t} {u} {us} a h) e =
     let o = opened l t (u ∷ us) e in
     let i = opened (o .rest) u us (o .behind) in
@@ -366,7 +365,7 @@ headed l (declared {t} {u} {us} a h) e =
     record { kind = ap (λ (r : List ℕ). headBy r .kind) f; name = λ d. ap (λ (r : List ℕ). headBy r .name) f ∙ second-key (o .rest) (i .rest) (u .chars) (i .front) h }
 headed l (acts {t} {us} h) e =
     let o = opened l t us e in
-    record { kind = ap (λ (r : List ℕ). headBy r .kind) (o .front) ∙ h (o .rest); name = λ d. absurd (never (sym d)) }
+    record { kind = ap (λ (r : List ℕ). headBy r .kind) (o .front) ∙ h (o .rest); name = λ d. absurd (true≢false (sym d)) }
 
 heads : (l : List ℕ) → LineAt (Headed l) (reading l)
 heads l = pick (reading l) (reading-opens l)
@@ -383,8 +382,8 @@ declaring-head l = pick (reading l) (heads l) (longLine l || (badForm l || (bigL
     pick : (o : Option Line) → LineAt (Headed l) o → (b : Bool)
         → let x = cond b Blank (elim o [ none ↦ Blank | some x ↦ x ]) in
         declaring (saidBy x .kind) ≡ true → (headOf l .kind ≡ saidBy x .kind) × (headOf l .name ≡ saidBy x .name)
-    pick o h true d = absurd (never (sym d))
-    pick none h false d = absurd (never (sym d))
+    pick o h true d = absurd (true≢false (sym d))
+    pick none h false d = absurd (true≢false (sym d))
     pick (some x) h false d = (h .kind, h .name d)
 
 -- So has every line without one of the faults 2 to 5.

@@ -1,16 +1,18 @@
 -- The ranges by tests of the number: what the code asks, and what the layers above ask of a variable whose number is not known.
 -- Assumes nothing.
 use mathlib.Core.Path.{_≡_, refl, sym, _∙_}
-use mathlib.Core.Bool.{Bool, true, false, cond}
-use Prim.Native.Nat.{ℕ, _≤_, _<_}
+use mathlib.Core.Bool.{Bool, true, false, cond, _&&_}
+use mathlib.Core.Logic.{⊎-elim}
+use Prim.Native.Nat.{ℕ, _+_, _≤_, _<_}
 use native.Mathlib.Omega.{arith}
 use borrow.Author.Tests.{lt-ltb, le-ltb, ltb-true, ltb-false, ne-eqb}
-use lib.Dec.{eqb, ltb}
+use lib.Dec.{T, eqb, leb, ltb, leb→le, ltb→lt}
 use lib.IntN.{ℤ, pos, _+ℤ_, _-ℤ_}
 use lib.ListN.{List·getD-eq-default}
 use Rattle.numbers.proofs.Lists.{EachFrom, each-from}
+use Rattle.numbers.proofs.Truth.{both, either}
 use Rattle.program.specs.declared.Range.{Range}
-use Rattle.program.specs.Variables.{fromTo, literals, byNumber, userVariable, rangeOf}
+use Rattle.program.specs.Variables.{fromTo, literals, byNumber, userVariable, rangeOf, present}
 
 -- A number over 20 is the user's.
 pub user-range : (v : ℕ) (vi vm : ℤ) → 20 < v → rangeOf v vi vm ≡ literals
@@ -67,3 +69,11 @@ input-range v vi vm low high =
       ne-eqb v 10 (λ e. omega arith),
       lt-ltb v 20 high,
     )
+
+-- A variable that is there is one of the paper's or one of the user's.
+pub by-present : {Q : Type 0} (users v : ℕ) → T (present users v) → (1 ≤ v → v ≤ 20 → Q) → (32 ≤ v → v < 32 + users → Q) → Q
+by-present users v t f g =
+    ⊎-elim
+    (λ p. let q = both (leb 1 v) (leb v 20) p in f (leb→le 1 v (q .0)) (leb→le v 20 (q .1)))
+    (λ p. let q = both (leb 32 v) (ltb v (32 + users)) p in g (leb→le 32 v (q .0)) (ltb→lt v (32 + users) (q .1)))
+    (either (leb 1 v && leb v 20) (leb 32 v && ltb v (32 + users)) t)

@@ -1,7 +1,6 @@
 -- The tokens of a line that declare a name, as a label or as a variable, and what they say.
 -- Assumes nothing.
 use mathlib.Core.Path.{_≡_, refl, ap, _∙_}
-use mathlib.Core.Bool.{Bool, true}
 use mathlib.Core.List.{List, [], _∷_}
 use mathlib.Core.Option.{some}
 use Prim.Native.Nat.{ℕ, _<_}
@@ -9,10 +8,11 @@ use native.Mathlib.Omega.{arith}
 use lib.Dec.{T}
 use lib.IntN.{ℤ, pos, negℤ}
 use lib.ListN.{length, drop}
+use Rattle.numbers.proofs.Truth.{is-true}
 use Rattle.numbers.specs.Bytes.{ascii}
 use Rattle.numbers.specs.Tests.{allOf, eqList}
+use Rattle.numbers.proofs.Tests.{eqList-eq, eqList-refl}
 use Rattle.program.specs.Names.{Name, digit, twoCharacters}
-use Rattle.program.proofs.Keys.{same-test, eqList-eq, eqList-refl}
 use Rattle.text.specs.Tokens.{Token}
 use Rattle.text.specs.Forms.{Line, digits, decimal, took, literal, put, word, Slot, Is, New, Start, Parts, noParts, naming, starting, takes, fill, forms, statement}
 use Rattle.text.specs.Faults.{declares}
@@ -24,9 +24,6 @@ pub data Declares (w : Name) (ts : List Token) : Type 0 where
   label : spelled ts ≡ ascii "LB" ∷ w ∷ [] → Declares w ts
   plain : spelled ts ≡ ascii "VA" ∷ w ∷ [] → Declares w ts
   started : {more : List Name} → spelled ts ≡ ascii "VA" ∷ w ∷ ascii "=" ∷ more → (z : ℤ) → literal (drop 3 ts) ≡ took z [] → Declares w ts
-
-pub is-true : (b : Bool) → T b → b ≡ true
-is-true b t = same-test b true (λ h. tt) (λ h. t)
 
 -- What a place takes.
 module _ (ss : List Slot) (p : Parts) where

@@ -12,11 +12,12 @@ use lib.Dec.{T, T-not, eqb, eqb→eq}
 use lib.ListN.{length, getD}
 use Rattle.numbers.specs.Bytes.{ascii}
 use Rattle.numbers.specs.Tests.{allOf, anyOf, allBelow, eqList, numbered}
+use Rattle.numbers.proofs.Truth.{both, either, left-of, right-of}
+use Rattle.numbers.proofs.Tests.{eqList-eq}
 use Rattle.program.specs.Names.{Name, letter, digit, wordCharacter, mnemonics, variableNames, paperVariable, reserved, twoCharacters, userName}
-use Rattle.program.proofs.Keys.{both, either, eqList-eq}
 use Rattle.text.specs.Tokens.{Token}
 use Rattle.text.specs.Forms.{Line, Blank, variableName, Slot, Is, New, Target, Written, Left, Right, Start, Operating, Comparing, Parts, noParts, fill, Form, form, forms, byForm}
-use Rattle.refusals.proofs.Slots.{suits, signed, asked, Took, one, two, Fits, done, step, fill-fits, or-left, or-right}
+use Rattle.refusals.proofs.Slots.{suits, signed, asked, Took, one, two, Fits, done, step, fill-fits}
 
 -- Form i of the 21, from 0; some tokens fill it, and its places take these parts.
 abbrev pub formAt : ℕ → Form
@@ -62,8 +63,8 @@ same-rest e (two m h i d) (one {s} g) = absurd (no-minus s (subst T e m) (subst 
 
 -- A token that is taken alone, or a minus.
 suits-or-signed : {r : Slot} {t : Token} {ts us : List Token} → Took r (t ∷ ts) us → T (signed r || suits r (t .chars))
-suits-or-signed {r} {t} (one h) = or-right (signed r) (suits r (t .chars)) h
-suits-or-signed {r} {t} (two m h i d) = or-left (signed r) (suits r (t .chars)) m
+suits-or-signed {r} {t} (one h) = right-of (signed r) (suits r (t .chars)) h
+suits-or-signed {r} {t} (two m h i d) = left-of (signed r) (suits r (t .chars)) m
 
 excluded : (s r : Slot) {ts us vs : List Token} → T (excludes s r) → Took s ts us → Took r ts vs → ⊥
 unfolding asked anyOf suits signed

@@ -8,8 +8,8 @@ use lib.Dec.{T, eqb}
 use lib.ListN.{length, getD}
 use Rattle.numbers.specs.Bytes.{ascii}
 use Rattle.numbers.specs.Tests.{allOf, eqList}
+use Rattle.numbers.proofs.Truth.{both, same-test}
 use Rattle.program.specs.Names.{Name, letter, digit, wordCharacter, reserved, twoCharacters, userName}
-use Rattle.program.proofs.Keys.{both, same-test}
 use Rattle.text.specs.Lines.{lines}
 use Rattle.text.specs.Tokens.{Token, tokens, uncommented}
 use Rattle.text.specs.Faults.{badForm}

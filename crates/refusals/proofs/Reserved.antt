@@ -11,8 +11,8 @@ use lib.Dec.{T, T-not, eqb, eqb→eq}
 use lib.ListN.{length, drop, getD}
 use Rattle.numbers.specs.Bytes.{ascii}
 use Rattle.numbers.specs.Tests.{allOf, anyOf}
+use Rattle.numbers.proofs.Truth.{both, is-true}
 use Rattle.program.specs.Names.{Name, letter, wordCharacter, reserved, twoCharacters}
-use Rattle.program.proofs.Keys.{both}
 use Rattle.text.specs.Lines.{lines}
 use Rattle.text.specs.Tokens.{Token, tokens, uncommented, printable}
 use Rattle.text.specs.Forms.{Line, Blank, Parts, Form, forms, statement, reading}
@@ -21,7 +21,7 @@ use Rattle.text.proofs.Rows.{Each}
 use Rattle.refusals.proofs.Rows.{lineAt, has, row-3, row-5}
 use Rattle.refusals.proofs.Slots.{suits, signed, Fits, first-suits, by-form, spelled, opening, Unsaid, no-form}
 use Rattle.refusals.proofs.Mnemonics.{behindLB, behindVA, rows-LB, rows-VA}
-use Rattle.refusals.proofs.Declaring.{Declares, is-true, said, Declaring, fits-named, declares-label, declares-plain, declares-started}
+use Rattle.refusals.proofs.Declaring.{Declares, said, Declaring, fits-named, declares-label, declares-plain, declares-started}
 
 -- What a form says declares nothing that is reserved.
 abbrev free : Parts → Form → Bool

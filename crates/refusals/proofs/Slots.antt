@@ -9,11 +9,11 @@ use native.Mathlib.Omega.{arith}
 use lib.Dec.{T, T-not, leb}
 use lib.IntN.{ℤ, pos, negℤ}
 use lib.ListN.{length}
+use Rattle.numbers.proofs.Truth.{left-of, right-of, both}
 use Rattle.numbers.specs.Bytes.{ascii}
 use Rattle.numbers.specs.Tests.{allOf, eqList}
 use Rattle.program.specs.Names.{Name, digit, twoCharacters, userName}
 use Rattle.program.specs.Statements.{Value, Literal, Variable}
-use Rattle.program.proofs.Keys.{both}
 use Rattle.text.specs.Tokens.{Token, tokens, uncommented, printable}
 use Rattle.text.specs.Forms.{Line, digits, decimal, Taken, took, put, word, sign, literal, variableName, variable, operand, operatorMeant, comparisonMeant, Slot, Is, New, Target, Written, Left, Right, Start, Operating, Comparing, Parts, noParts, naming, writing, onLeft, operating, comparing, onRight, starting, takes, fill, Form, byForm, statement, reading}
 use Rattle.text.specs.Faults.{badForm}
@@ -70,15 +70,6 @@ pub data Fits : List Slot → List Token → Type 0 where
   done : Fits [] []
   step : {s : Slot} {ss : List Slot} {ts us : List Token} → Took s ts us → Fits ss us → Fits (s ∷ ss) ts
 
--- One of two tests.
-pub or-left : (x y : Bool) → T x → T (x || y)
-or-left true y t = tt
-or-left false y t = absurd t
-
-pub or-right : (x y : Bool) → T y → T (x || y)
-or-right true y t = tt
-or-right false y t = t
-
 -- What is taken, if anything is, leaves what the place leaves.
 module _ (s : Slot) where
   module _ {A : Type 0} where
@@ -119,9 +110,9 @@ module _ (s : Slot) where
 
   leaves-operand : T (signed s) → ((w : Name) → T (figures w || variableName w) → T (suits s w)) → (ts : List Token) → Leaves ts (operand ts)
   unfolding operand variable
-  leaves-operand g h ts = pick (literal ts) (leaves-literal g (λ w d. h w (or-left (figures w) (variableName w) d)) ts) where
+  leaves-operand g h ts = pick (literal ts) (leaves-literal g (λ w d. h w (left-of (figures w) (variableName w) d)) ts) where
     pick : (o : Option (Taken ℤ)) → Leaves ts o → Leaves {A = Value Name} ts (elim o [ none ↦ variable ts | some z ↦ took (Literal (z .part)) (z .rest) ])
-    pick none k = leaves-put Variable ts (word variableName ts) (leaves-word variableName (λ w d. h w (or-right (figures w) (variableName w) d)) ts)
+    pick none k = leaves-put Variable ts (word variableName ts) (leaves-word variableName (λ w d. h w (right-of (figures w) (variableName w) d)) ts)
     pick (some z) k = k
 
 leaves-slot : (s : Slot) (ts : List Token) (p : Parts) → Leaves s ts (takes s ts p)

@@ -11,8 +11,10 @@ use lib.Dec.{T, T-not, not-T, leb, ltb, leb→le, le→leb}
 use lib.ListN.{length, getD}
 use Rattle.numbers.specs.Bytes.{ascii}
 use Rattle.numbers.specs.Tests.{allOf, anyOf}
+use Rattle.numbers.proofs.Truth.{both, both-of, either, left-of, right-of}
+use Rattle.numbers.proofs.Tests.{eqList-eq}
 use Rattle.program.specs.Names.{Name, letter, digit}
-use Rattle.program.proofs.Keys.{both, both-of, either, eqList-eq, IsWord, single, double, two-word, user-word}
+use Rattle.program.proofs.Keys.{IsWord, single, double, two-word, user-word}
 use Rattle.text.specs.Lines.{lines}
 use Rattle.text.specs.Tokens.{Token, tokens, uncommented}
 use Rattle.text.specs.Forms.{Line, digits, variableName, Slot, Is, New, Target, Written, Left, Right, Start, Operating, Comparing, Parts, Form, forms, statement}
@@ -21,7 +23,7 @@ use Rattle.text.proofs.Words.{variable-word}
 use Rattle.text.proofs.Signs.{operator-word, comparison-word}
 use Rattle.text.proofs.Rows.{Each}
 use Rattle.refusals.proofs.Rows.{lineAt, has, row-3}
-use Rattle.refusals.proofs.Slots.{figures, suits, asked, Took, one, two, Fits, done, step, by-form, no-form, or-left, or-right}
+use Rattle.refusals.proofs.Slots.{figures, suits, asked, Took, one, two, Fits, done, step, by-form, no-form}
 
 -- Text 10: a word of three or more characters.
 abbrev pub longWord : Token → Bool
@@ -49,7 +51,7 @@ word-brief (double p q) = tt
 
 figures-brief : (w : Name) → T (figures w) → T (brief w)
 unfolding brief
-figures-brief w h = or-right (leb (length w) 2) (figures w) h
+figures-brief w h = right-of (leb (length w) 2) (figures w) h
 
 operand-brief : (w : Name) → T (figures w || variableName w) → T (brief w)
 operand-brief w h = ⊎-elim (figures-brief w) (λ v. word-brief (variable-word w v)) (either (figures w) (variableName w) h)
@@ -103,7 +105,7 @@ clash P Q f (x ∷ xs) h g = let q = both (Q x) (allOf Q xs) g in ⊎-elim (λ p
 any-then : {A : Type 0} (P Q : A → Bool) → ((a : A) → T (P a) → T (Q a)) → (xs : List A) → T (anyOf P xs) → T (anyOf Q xs)
 unfolding anyOf
 any-then P Q f [] h = h
-any-then P Q f (x ∷ xs) h = ⊎-elim (λ p. or-left (Q x) (anyOf Q xs) (f x p)) (λ r. or-right (Q x) (anyOf Q xs) (any-then P Q f xs r)) (either (P x) (anyOf P xs) h)
+any-then P Q f (x ∷ xs) h = ⊎-elim (λ p. left-of (Q x) (anyOf Q xs) (f x p)) (λ r. right-of (Q x) (anyOf Q xs) (any-then P Q f xs r)) (either (P x) (anyOf P xs) h)
 
 no-long : (l : List ℕ) → T (anyOf longToken (tokens (uncommented l))) → badForm l ≡ true
 unfolding brief digits

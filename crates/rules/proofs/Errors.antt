@@ -9,6 +9,7 @@ use borrow.Author.Tests.{lt-ltb, le-ltb, eq-eqb, ne-eqb}
 use lib.Dec.{eqb, ltb}
 use lib.IntN.{ℤ, pos}
 use lib.ListN.{length, set, length-set}
+use Rattle.numbers.proofs.Truth.{chosen}
 use Rattle.effects.specs.declared.Effect.{Effect}
 use Rattle.effects.specs.declared.Effect.the-variants.{Fails}
 use Rattle.effects.specs.Effects.{read}
@@ -21,7 +22,7 @@ use Rattle.events.specs.Events.{recordBytes}
 use Rattle.machine.specs.Run.{reach, runFrom}
 use Rattle.machine.proofs.Traces.{ended, after}
 use Rattle.machine.proofs.Courses.{one-statement}
-use Rattle.rules.proofs.Values.{chosen, read-same, read-other}
+use Rattle.rules.proofs.Values.{read-same, read-other}
 
 -- A turn leaves this next cell, these places and this handler; it stops the run or not.
 pub record Leaves (next : ℕ) (places : Places) (handler : ℕ) (stops : Bool) (t : Turned) : Type 0 where

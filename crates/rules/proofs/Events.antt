@@ -1,27 +1,28 @@
 -- Good events keep the rules, and leave the next cell.
 -- Assumes nothing.
-use mathlib.Core.Path.{_≡_, refl, sym, _∙_, subst}
-use mathlib.Core.Bool.{Bool, true, false, _&&_, _||_, not}
+use mathlib.Core.Path.{_≡_, refl, _∙_, subst}
+use mathlib.Core.Bool.{Bool, false, _&&_, _||_, not}
 use mathlib.Core.List.{List, [], _∷_}
 use mathlib.Core.Logic.{inl, ⊎-elim}
-use Prim.Native.Nat.{ℕ, zero, suc, _+_, _≤_, _<_}
+use Prim.Native.Nat.{ℕ, _≤_}
 use native.Mathlib.Omega.{arith}
 use lib.Dec.{T, eqb, leb, eqb→eq, leb→le}
 use lib.IntN.{ℤ, pos}
 use lib.ListN.{set}
-use Rattle.numbers.specs.Tests.{allOf, anyBelow, between, eqZ, listed}
+use Rattle.numbers.specs.Tests.{allOf, between, eqZ}
 use Rattle.program.specs.Variables.{inRange, literals, rangeOf}
-use Rattle.program.proofs.Keys.{both, both-of, either}
 use Rattle.machine.specs.declared.Machine.{Machine}
 use Rattle.events.specs.declared.Event.{Event}
 use Rattle.machine.specs.declared.Motion.{Motion}
 use Rattle.machine.specs.declared.Motion.the-variants.{Still, To, Slewing}
 use Rattle.machine.specs.Turn.{withVariables, inMotion}
-use Rattle.events.specs.Events.{goodEvent, badEvent, badEvents, eventAt, eventCount, events}
+use Rattle.events.specs.Events.{goodEvent, badEvents, eventAt, eventCount, events}
 use Rattle.machine.specs.Happens.{arrivedBy, happens}
 use Rattle.machine.specs.Run.{Reached, reach}
+use Rattle.events.proofs.Scripts.{good-events}
+use Rattle.numbers.proofs.Truth.{true-is, both, either, chosen}
+use Rattle.numbers.proofs.Tests.{all-listed}
 use Rattle.rules.specs.Rules.{Ruled, goodMotion}
-use Rattle.rules.proofs.Values.{chosen, if-same}
 use Rattle.rules.proofs.Parts.{registers-of, way-of, together, registers-set, registers-move, registers-input}
 
 -- Events 2: what a good event of each kind has.
@@ -83,28 +84,6 @@ module _ {cells variables : ℕ} {holds : ℕ → Bool} where
   ruled-event e m good r = by-kind e m (kinds-of e good) r
 
 -- Refusals 17: the events of a script that is not refused are good.
-neither : (x y : Bool) → T (not (x || y)) → T (not x) × T (not y)
-neither true y t = absurd t
-neither false y t = (tt, t)
-
-not-not : (x : Bool) → T (not (not x)) → T x
-not-not true t = tt
-not-not false t = t
-
-all-listed : {A : Type 0} (p : A → Bool) (f : ℕ → A) (from n : ℕ) → ((k : ℕ) → k < from + n → T (p (f k))) → T (allOf p (listed from n f))
-unfolding allOf listed
-all-listed p f from zero h = tt
-all-listed p f from (suc n) h = both-of (p (f from)) (allOf p (listed (suc from) n f)) (h from (omega arith)) (all-listed p f (suc from) n (λ k l. h k (omega arith)))
-
-none-below : (n : ℕ) (p : ℕ → Bool) → T (not (anyBelow n p)) → (k : ℕ) → k < n → T (not (p k))
-unfolding anyBelow
-none-below zero p t k h = absurd (omega arith)
-none-below (suc n) p t k h =
-    let b = neither (anyBelow n p) (p n) t in
-    if-same k n (λ e. subst (λ (i : ℕ). T (not (p i))) (sym e) (b .1)) (λ o. none-below n p (b .0) k (omega arith))
-
-pub good-events : (s : List ℕ) → T (not (badEvents s)) → T (allOf goodEvent (events s))
-unfolding badEvents badEvent events
-good-events s t =
-    all-listed goodEvent (eventAt s) 0 (eventCount s)
-    (λ k h. not-not (goodEvent (eventAt s k)) (neither (not (goodEvent (eventAt s k))) _ (none-below (eventCount s) (badEvent s) t k (omega arith)) .0))
+pub all-good : (s : List ℕ) → badEvents s ≡ false → T (allOf goodEvent (events s))
+unfolding events
+all-good s e = all-listed (eventAt s) goodEvent 0 (eventCount s) (λ k h. true-is (goodEvent (eventAt s k)) (good-events s k e (omega arith)))

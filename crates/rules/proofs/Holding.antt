@@ -11,6 +11,7 @@ use Rattle.program.specs.Variables.{inRange, holdRange}
 use Rattle.program.specs.Statements.{Value, Hold, OE, Disarm}
 use Rattle.effects.specs.declared.Effect.{Effect}
 use Rattle.effects.specs.declared.Effect.the-variants.{Fails, Holds}
+use Rattle.effects.specs.Errors.{valueOutside}
 use Rattle.effects.specs.Effects.{value, holding, effect}
 use Rattle.machine.specs.declared.Machine.{Machine}
 use Rattle.machine.specs.Turn.{noHandler, onward, withHold, held, turn}
@@ -90,7 +91,7 @@ module _ {R : Type 0} (place number : R → ℕ) (cells : ℕ) (x : Value R) whe
             still f (suc j) h = ap (λ (n : Machine). turnsOf j n .next) f ∙ some-left k j (withHold (suc k) m) refl (omega arith)
 
   -- Turn 17, Turn 21: any other x, as it is in the first turn, is 103.
-  pub hold-fails : (vars : List ℤ) (kept : ℕ) → inRange holdRange (value place number vars kept 0 x) ≡ false → does vars kept 0 ≡ Fails 103
+  pub hold-fails : (vars : List ℤ) (kept : ℕ) → inRange holdRange (value place number vars kept 0 x) ≡ false → does vars kept 0 ≡ Fails valueOutside
   unfolding effect holding
   hold-fails vars kept e = rw e
 

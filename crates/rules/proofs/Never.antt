@@ -12,10 +12,12 @@ use lib.IntN.{ℤ, pos, _+ℤ_, _-ℤ_}
 use lib.ListN.{length, set, length-set, length-append}
 use Rattle.numbers.specs.Bytes.{bytes}
 use Rattle.numbers.specs.Tests.{eqZ}
+use Rattle.numbers.proofs.Truth.{chosen, if-same}
 use Rattle.program.specs.Variables.{inRange, literals, rangeOf, readOnly, allInputs}
-use Rattle.program.specs.Statements.{Operator, Divided, Value, Statement, SetWith, IC, DC, MA, MR}
+use Rattle.program.specs.Statements.{Operator, Divided, Value, Statement, SetWith, IC, DC, MA, MR, isHold}
 use Rattle.effects.specs.declared.Effect.{Effect}
 use Rattle.effects.specs.declared.Effect.the-variants.{Fails, Stores, Passes, Goes, Calls, Returns, Ends, Stays, Holds, Arms, Disarms, Moves, Slews, Prints}
+use Rattle.effects.specs.Errors.{resultOutside, divisorZero, valueOutside, stillMoving}
 use Rattle.effects.specs.Effects.{read, storing, storingResult, operate, zeroDivisor, storingWith, moving, value, effect}
 use Rattle.machine.specs.declared.Machine.{Machine}
 use Rattle.machine.specs.declared.Motion.{Motion}
@@ -29,8 +31,8 @@ use Rattle.machine.specs.Happens.{input, arrivedBy, happens}
 use Rattle.machine.specs.Run.{Step, Course, plain, courseOf, traceFrom, runFrom}
 use Rattle.machine.proofs.Traces.{few-turns}
 use Rattle.rules.specs.Rules.{Ruled}
-use Rattle.rules.specs.Good.{Good, isHold}
-use Rattle.rules.proofs.Values.{chosen, read-same, read-other, mayHold, if-same}
+use Rattle.rules.specs.Good.{Good}
+use Rattle.rules.proofs.Values.{read-same, read-other, mayHold}
 use Rattle.rules.proofs.Events.{Kinds, an-input, arrived, a-position, kinds-of}
 use Rattle.rules.proofs.Errors.{ef-in-error}
 use Rattle.rules.proofs.Turn.{Sound, sound-effect, zero-only}
@@ -149,35 +151,35 @@ module _ {R : Type 0} (place number : R → ℕ) (vars : List ℤ) (kept hold : 
   worth x = value place number vars kept hold x
 
   -- A move while MV is 1 is 106, whatever the target.
-  pub moving-first : (x : Value R) → read vars 14 ≡ pos 1 → (does (MA x) ≡ Fails 106) × (does (MR x) ≡ Fails 106)
+  pub moving-first : (x : Value R) → read vars 14 ≡ pos 1 → (does (MA x) ≡ Fails stillMoving) × (does (MR x) ≡ Fails stillMoving)
   unfolding effect moving eqZ
   moving-first x e = (rw e, rw e)
 
   -- A target outside the literal range is 101 only then.
   pub target-next : (x : Value R) → eqZ (read vars 14) (pos 1) ≡ false
-      → (inRange literals (worth x) ≡ false → does (MA x) ≡ Fails 101) × (inRange literals (read vars 5 +ℤ worth x) ≡ false → does (MR x) ≡ Fails 101)
+      → (inRange literals (worth x) ≡ false → does (MA x) ≡ Fails resultOutside) × (inRange literals (read vars 5 +ℤ worth x) ≡ false → does (MR x) ≡ Fails resultOutside)
   unfolding effect moving
   target-next x e = (λ f. rw (e, f), λ f. rw (e, f))
 
   -- A zero divisor is 102, whatever the ranges.
-  pub divisor-first : (v : R) (x y : Value R) → worth y ≡ pos 0 → does (SetWith v x Divided y) ≡ Fails 102
+  pub divisor-first : (v : R) (x y : Value R) → worth y ≡ pos 0 → does (SetWith v x Divided y) ≡ Fails divisorZero
   unfolding effect storingWith zeroDivisor eqZ
   divisor-first v x y e = rw e
 
   -- IC and DC past the literal range are 101, whatever the variable's range.
   pub count-first : (v : R)
-      → (inRange literals (read vars (number v) +ℤ pos 1) ≡ false → does (IC v) ≡ Fails 101)
-      × (inRange literals (read vars (number v) -ℤ pos 1) ≡ false → does (DC v) ≡ Fails 101)
+      → (inRange literals (read vars (number v) +ℤ pos 1) ≡ false → does (IC v) ≡ Fails resultOutside)
+      × (inRange literals (read vars (number v) -ℤ pos 1) ≡ false → does (DC v) ≡ Fails resultOutside)
   unfolding effect storingResult
   count-first v = (λ f. rw f, λ f. rw f)
 
   -- A result outside the literal range is 101, whatever the variable's range; only one inside it can be 103.
   module _ (v : R) (x y : Value R) (o : Operator) (divides : zeroDivisor o (worth y) ≡ false) where
-    pub literals-next : inRange literals (operate o (worth x) (worth y)) ≡ false → does (SetWith v x o y) ≡ Fails 101
+    pub literals-next : inRange literals (operate o (worth x) (worth y)) ≡ false → does (SetWith v x o y) ≡ Fails resultOutside
     unfolding effect storingWith storingResult
     literals-next f = rw (divides, f)
 
     pub variable-last : inRange literals (operate o (worth x) (worth y)) ≡ true → mayHold vars (number v) (operate o (worth x) (worth y)) ≡ false
-        → does (SetWith v x o y) ≡ Fails 103
+        → does (SetWith v x o y) ≡ Fails valueOutside
     unfolding effect storingWith storingResult storing
     variable-last t f = rw (divides, t, f)

@@ -12,8 +12,8 @@ use lib.IntN.{ℤ, pos, negsuc, _+ℤ_, _*ℤ_}
 use lib.ListN.{length, getD, set, length-set}
 use lib.Seq.{getD-set-same, getD-set-other}
 use Rattle.numbers.specs.Tests.{between}
+use Rattle.numbers.proofs.Truth.{both, both-of, if-same}
 use Rattle.program.specs.Variables.{rangeOf, present, allInputs}
-use Rattle.program.proofs.Keys.{both, both-of}
 use Rattle.program.proofs.Ranges.{input-range}
 use Rattle.effects.specs.Effects.{read}
 use Rattle.machine.specs.declared.Machine.{Machine}
@@ -23,7 +23,7 @@ use Rattle.machine.specs.declared.Motion.the-variants.{Still, To, Slewing}
 use Rattle.machine.specs.Happens.{input}
 use Rattle.machine.specs.Turn.{noHandler, machine, movingBit, keep, release}
 use Rattle.rules.specs.Rules.{Ruled, goodMotion}
-use Rattle.rules.proofs.Values.{Values, errorNumber, mayHold, values-set, read-same, read-other, inputs-other, if-same}
+use Rattle.rules.proofs.Values.{Values, errorNumber, mayHold, values-set, read-same, read-other, inputs-other}
 
 -- The variables with IN by the inputs and MV by the motion.
 pub record Registers (variables : ℕ) (vars : List ℤ) (motion : Motion) : Type 0 where

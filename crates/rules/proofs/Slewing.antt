@@ -8,6 +8,7 @@ use native.Mathlib.Omega.{arith}
 use lib.Dec.{T, eqb, ltb}
 use lib.IntN.{ℤ, pos}
 use Rattle.numbers.specs.Tests.{eqZ}
+use Rattle.numbers.proofs.Truth.{chosen}
 use Rattle.effects.specs.declared.Effect.{Effect}
 use Rattle.effects.specs.declared.Effect.the-variants.{Fails, Stores, Passes, Goes, Calls, Returns, Ends, Stays, Holds, Arms, Disarms, Moves, Slews, Prints}
 use Rattle.effects.specs.Effects.{read}
@@ -20,7 +21,7 @@ use Rattle.machine.specs.Happens.{arrivedBy, happens}
 use Rattle.machine.specs.Run.{plain, courseOf, runFrom}
 use Rattle.machine.proofs.Quiet.{happens-next}
 use Rattle.machine.proofs.Traces.{all-events, run-keeps}
-use Rattle.rules.proofs.Values.{chosen, read-other}
+use Rattle.rules.proofs.Values.{read-other}
 use Rattle.rules.proofs.Errors.{in-error}
 
 -- A motion that is no slew at velocity 0.

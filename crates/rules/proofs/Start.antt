@@ -12,21 +12,14 @@ use lib.ListN.{length, getD, set, take, drop, replicate, List·getD-append}
 use lib.Seq.{sets-eq, length-sets, getD-append-add, getD-drop, getD-take}
 use Rattle.numbers.specs.Tests.{allBelow, eqZ}
 use Rattle.program.specs.Variables.{inRange, literals, rangeOf, present, startVariables, allInputs}
-use Rattle.program.proofs.Keys.{both, both-of, either}
 use Rattle.program.proofs.Ranges.{user-range}
 use Rattle.effects.specs.Effects.{read}
 use Rattle.machine.specs.Turn.{startMachine, movingBit}
 use Rattle.rules.specs.Rules.{Ruled, goodMotion}
-use Rattle.rules.proofs.Values.{mayHold, eqZ-eq, or-first, or-second, if-same, if-below}
+use Rattle.numbers.proofs.Tests.{all-below}
+use Rattle.numbers.proofs.Truth.{both, both-of, either, left-of, right-of, if-below}
+use Rattle.rules.proofs.Values.{mayHold, eqZ-eq}
 use Rattle.rules.proofs.Parts.{together}
-
--- A test that holds below n holds of each number below n.
-pub holds-below : (n : ℕ) (p : ℕ → Bool) → T (allBelow n p) → (k : ℕ) → k < n → T (p k)
-unfolding allBelow
-holds-below zero p t k h = absurd (omega arith)
-holds-below (suc n) p t k h =
-    let b = both (allBelow n p) (p n) t in
-    if-same k n (λ e. subst (λ (i : ℕ). T (p i)) (sym e) (b .1)) (λ o. holds-below n p (b .0) k (omega arith))
 
 -- The same number everywhere, and past the end.
 everywhere : {A : Type 0} (n k : ℕ) (a : A) → getD (replicate n a) k a ≡ a
@@ -61,13 +54,13 @@ unfolding allBelow rangeOf
 first-in v p n =
     let h : v ≤ 20 = leb→le v 20 (both (leb 1 v) (leb v 20) p .1) in
     in-table (paper v) (eqb v 10) (inRange (rangeOf v (pos 1000) (pos 768000)) (getD first v (pos 0)))
-    (holds-below 32 startsIn tt v (omega arith)) p (λ t. n (eqb→eq v 10 t))
+    (all-below startsIn 32 tt v (omega arith)) p (λ t. n (eqb→eq v 10 t))
 
 first-none : (v : ℕ) → v < 32 → (T (paper v) → ⊥) → getD first v (pos 0) ≡ pos 0
 unfolding allBelow eqZ
 first-none v h n =
     ⊎-elim (λ t. absurd (n t)) (λ t. eqZ-eq (getD first v (pos 0)) (pos 0) t)
-    (either (paper v) (eqZ (getD first v (pos 0)) (pos 0)) (holds-below 32 startsNone tt v h))
+    (either (paper v) (eqZ (getD first v (pos 0)) (pos 0)) (all-below startsNone 32 tt v h))
 
 -- The variables at the start: those of the paper, those of the user's, and past both.
 module _ (values : List ℤ) (room : length values ≤ 32) where
@@ -113,9 +106,9 @@ module _ (values : List ℤ) (room : length values ≤ 32) where
   starts-none : (v : ℕ) → (T (present (length values) v) → ⊥) → read (startVariables values) v ≡ pos 0
   starts-none v n =
       if-below v 32
-      (λ h. read-paper v h ∙ first-none v h (λ t. n (or-first (paper v) (leb 32 v && ltb v (32 + length values)) t)))
+      (λ h. read-paper v h ∙ first-none v h (λ t. n (left-of (paper v) (leb 32 v && ltb v (32 + length values)) t)))
       (λ l. if-below v (32 + length values)
-      (λ u. absurd (n (or-second (paper v) (leb 32 v && ltb v (32 + length values)) (both-of (leb 32 v) (ltb v (32 + length values)) (le→leb 32 v l) (lt→ltb v (32 + length values) u)))))
+      (λ u. absurd (n (right-of (paper v) (leb 32 v && ltb v (32 + length values)) (both-of (leb 32 v) (ltb v (32 + length values)) (le→leb 32 v l) (lt→ltb v (32 + length values) u)))))
       (λ u. let e : 32 + (length values + (v - (32 + length values))) ≡ v = omega arith in rw (← e) (read-past (v - (32 + length values)))))
 
   starts-inputs : read (startVariables values) 20 ≡ allInputs (startVariables values)

@@ -9,13 +9,14 @@ use native.Mathlib.Omega.{arith}
 use lib.Dec.{T, eqb, leb, ltb, leb→le, ltb→lt, nltb→le, le→leb, T-not}
 use lib.IntN.{ℤ, pos, negsuc, natAbs}
 use lib.ListN.{set, getD}
-use Rattle.numbers.specs.Tests.{allOf, between, eqZ}
+use Rattle.numbers.specs.Tests.{allOf, anyOf, between, eqZ}
+use Rattle.numbers.proofs.Truth.{both, both-of, chosen, right-of, not-same, if-same, if-below}
 use Rattle.program.specs.Variables.{inRange, literals, holdRange, slewRange, rangeOf, present, readOnly}
-use Rattle.program.specs.Statements.{Operator, Value, Statement, Set, SetWith, IC, DC, BR, CL, RT, E, H, Hold, OE, Disarm, MA, MR, SL, PR, writes, targets}
+use Rattle.program.specs.Statements.{Operator, Value, Statement, Set, SetWith, IC, DC, BR, CL, RT, E, H, Hold, OE, Disarm, MA, MR, SL, PR, writes, targets, isHold}
 use Rattle.program.specs.Statements as S
-use Rattle.program.proofs.Keys.{both, both-of}
 use Rattle.effects.specs.declared.Effect.{Effect}
 use Rattle.effects.specs.declared.Effect.the-variants.{Fails, Stores, Passes, Goes, Calls, Returns, Ends, Stays, Holds, Arms, Disarms, Moves, Slews, Prints}
+use Rattle.effects.specs.Errors.{isError}
 use Rattle.effects.specs.Effects.{read, storing, storingResult, operate, zeroDivisor, storingWith, calling, returning, waiting, holding, moving, slewing, printing, branching, callingIf, effect}
 use Rattle.machine.specs.declared.Machine.{Machine}
 use Rattle.machine.specs.declared.Motion.{Motion}
@@ -23,8 +24,8 @@ use Rattle.machine.specs.declared.Motion.the-variants.{To}
 use Rattle.machine.specs.declared.Turned.{Turned}
 use Rattle.machine.specs.Turn.{noHandler, machine, stored, keep, release, lastPlace, inMotion, slew, called, returned, held, flagged, failed, turn}
 use Rattle.rules.specs.Rules.{Ruled, goodMotion}
-use Rattle.rules.specs.Good.{Good, isHold, writable}
-use Rattle.rules.proofs.Values.{errorNumber, mayHold, chosen, or-second, not-same, if-same, if-below}
+use Rattle.rules.specs.Good.{Good, writable}
+use Rattle.rules.proofs.Values.{errorNumber, mayHold}
 use Rattle.rules.proofs.Parts.{Registers, Way, registers-of, way-of, together, registers-set, registers-move, keep-one, free-one, way-at, way-arm, way-hold}
 
 -- What a statement may store to ER (10) is 0; a variable that it may write is not among the read-only ones.
@@ -44,7 +45,7 @@ apart v t =
 module _ (cells variables : ℕ) (holds : ℕ → Bool) (m : Machine) where
   -- What an effect has to be for the rules to stay: no hold runs but at an `H x`.
   abbrev pub Sound : Effect → Type 0
-  Sound (Fails error) = T (between (pos 101) (pos 106) (pos error)) × (m .hold ≡ 0)
+  Sound (Fails error) = T (isError (pos error)) × (m .hold ≡ 0)
   Sound (Stores v z) = T (present variables v) × T (not (readOnly v)) × T (mayHold (m .variables) v z) × (m .hold ≡ 0)
   Sound Passes = m .hold ≡ 0
   Sound (Goes cell) = (cell ≤ cells) × (m .hold ≡ 0)
@@ -62,26 +63,26 @@ module _ (cells variables : ℕ) (holds : ℕ → Bool) (m : Machine) where
   -- What the parts of an effect are where no hold runs.
   module _ (quiet : m .hold ≡ 0) where
     fine-storing : (v : ℕ) (z : ℤ) → T (writable variables v) → Sound (storing (m .variables) v z)
-    unfolding storing writable
+    unfolding storing writable isError anyOf eqZ
     fine-storing v z w =
         let p = both (present variables v) (not (readOnly v)) w in
         chosen Sound (mayHold (m .variables) v z) (λ t. (p .0, p .1, t, quiet)) (λ t. (tt, quiet))
 
     fine-result : (v : ℕ) (z : ℤ) → T (writable variables v) → Sound (storingResult (m .variables) v z)
-    unfolding storingResult
+    unfolding storingResult isError anyOf eqZ
     fine-result v z w = chosen Sound (inRange literals z) (λ t. fine-storing v z w) (λ t. (tt, quiet))
 
     fine-with : (v : ℕ) (o : Operator) (x y : ℤ) → T (writable variables v) → Sound (storingWith (m .variables) v o x y)
-    unfolding storingWith
+    unfolding storingWith isError anyOf eqZ
     fine-with v o x y w =
         chosen Sound (zeroDivisor o y) (λ t. (tt, quiet)) (λ t. fine-result v (operate o x y) w)
 
     fine-calling : (cell : ℕ) → cell ≤ cells → Sound (calling (m .places .kept) cell)
-    unfolding calling
+    unfolding calling isError anyOf eqZ
     fine-calling cell c = chosen Sound (ltb (m .places .kept) 8) (λ t. (c, ltb→lt (m .places .kept) 8 t, quiet)) (λ t. (tt, quiet))
 
     fine-returning : Sound (returning (m .places .kept))
-    unfolding returning
+    unfolding returning isError anyOf eqZ
     fine-returning = chosen Sound (ltb 0 (m .places .kept)) (λ t. (ltb→lt 0 (m .places .kept) t, quiet)) (λ t. (tt, quiet))
 
     fine-waiting : Sound (waiting (m .variables))
@@ -89,13 +90,13 @@ module _ (cells variables : ℕ) (holds : ℕ → Bool) (m : Machine) where
     fine-waiting = chosen Sound (eqZ (read (m .variables) 14) (pos 1)) (λ t. quiet) (λ t. quiet)
 
     fine-moving : (target : ℤ) (kind : ℕ) (z : ℤ) → Sound (moving (m .variables) target kind z)
-    unfolding moving
+    unfolding moving isError anyOf eqZ
     fine-moving target kind z =
         chosen Sound (eqZ (read (m .variables) 14) (pos 1)) (λ t. (tt, quiet))
         (λ t. chosen Sound (inRange literals target) (λ u. (u, quiet)) (λ u. (tt, quiet)))
 
     fine-slewing : (z : ℤ) → Sound (slewing z)
-    unfolding slewing
+    unfolding slewing isError anyOf eqZ
     fine-slewing z = chosen Sound (inRange slewRange z) (λ t. (t, quiet)) (λ t. (tt, quiet))
 
     module _ {R : Type 0} (place number : R → ℕ) where
@@ -120,7 +121,7 @@ module _ (cells variables : ℕ) (holds : ℕ → Bool) (m : Machine) where
   hold-most (negsuc n) t = absurd t
 
   sound-holding : (z : ℤ) → m .hold ≤ 64999 → T (holds (m .next)) → Sound (holding (m .hold) z)
-  unfolding holding
+  unfolding holding isError anyOf eqZ
   sound-holding z l t =
       chosen Sound (ltb 0 (m .hold))
       (λ k. (omega arith, t))
@@ -173,12 +174,12 @@ module _ {cells variables : ℕ} {holds : ℕ → Bool} {m : Machine} (r : Ruled
       (λ k. registers-set g 15 (pos 0) tt (λ e. omega arith) (inl (omega arith)) (λ n. tt) (λ e. absurd (omega arith)))
       (λ k. g)
 
-  flagged-registers : (error : ℕ) → T (between (pos 101) (pos 106) (pos error)) → Registers variables (set (set (m .variables) 10 (pos error)) 15 (pos 1)) (m .motion)
+  flagged-registers : (error : ℕ) → T (isError (pos error)) → Registers variables (set (set (m .variables) 10 (pos error)) 15 (pos 1)) (m .motion)
   unfolding rangeOf
   flagged-registers error t =
       registers-set
       (registers-set (registers-of r) 10 (pos error) tt (λ e. omega arith) (inl (omega arith)) (λ n. absurd (n refl))
-      (λ e. or-second (eqZ (pos error) (pos 0)) (between (pos 101) (pos 106) (pos error)) t))
+      (λ e. right-of (eqZ (pos error) (pos 0)) (isError (pos error)) t))
       15 (pos 1) tt (λ e. omega arith) (inl (omega arith)) (λ n. tt) (λ e. absurd (omega arith))
 
   called-way : (cell : ℕ) → cell ≤ cells → m .places .kept < 8 → m .hold ≡ 0
@@ -189,7 +190,7 @@ module _ {cells variables : ℕ} {holds : ℕ → Bool} {m : Machine} (r : Ruled
   unfolding goodMotion slew
   good-slew z t = chosen (λ (x : Motion). T (goodMotion x)) (eqZ z (pos 0)) (λ k. tt) (λ k. t)
 
-  ruled-failed : (error : ℕ) → T (between (pos 101) (pos 106) (pos error)) → m .hold ≡ 0 → Ruled cells variables holds (failed error m .machine)
+  ruled-failed : (error : ℕ) → T (isError (pos error)) → m .hold ≡ 0 → Ruled cells variables holds (failed error m .machine)
   unfolding failed flagged called
   ruled-failed error t h =
       let g = flagged-registers error t in

@@ -1,54 +1,22 @@
 -- The variables of a ruled state: what one store leaves of them.
 -- Assumes nothing.
 use mathlib.Core.Path.{_≡_, refl, sym, ap, _∙_, subst}
-use mathlib.Core.Bool.{Bool, true, false, cond, _||_, not}
+use mathlib.Core.Bool.{Bool, _||_}
 use mathlib.Core.List.{List}
 use mathlib.Core.Logic.{_⊎_, ⊎-elim}
 use Prim.Native.Nat.{ℕ, zero, suc, _≤_, _<_}
 use native.Mathlib.Omega.{arith}
-use borrow.Author.Tests.{ltb-true, ltb-false, eqb-true, eqb-false}
-use lib.Dec.{T, eqb, ltb, eqb→eq, eqb-refl, T-not, leb·zero, leb·suc-zero, leb·suc-suc}
+use lib.Dec.{T, eqb→eq, leb·zero, leb·suc-zero, leb·suc-suc}
 use lib.IntN.{ℤ, pos, negsuc, sucℤ, predℤ, +ℤ-one, -ℤ-one, _+ℤ_, _-ℤ_}
 use lib.ListN.{length, set, length-set}
 use lib.Seq.{set-out, getD-set-same, getD-set-other}
 use lib.Signed.{leZ}
-use Rattle.numbers.specs.Tests.{between, eqZ}
+use Rattle.numbers.specs.Tests.{eqZ}
 use Rattle.program.specs.Variables.{inRange, rangeOf, present, allInputs}
-use Rattle.program.proofs.Keys.{both, both-of}
+use Rattle.numbers.proofs.Truth.{both, both-of, if-same, if-below}
 use Rattle.program.proofs.Ranges.{range-other}
+use Rattle.effects.specs.Errors.{isError}
 use Rattle.effects.specs.Effects.{read}
-
--- By whether two numbers are the same; by whether one is below the other.
-module _ {C : Type 0} (a b : ℕ) where
-  pub if-same : (a ≡ b → C) → ((a ≡ b → ⊥) → C) → C
-  if-same f g = tested (eqb a b) refl where
-    tested : (t : Bool) → eqb a b ≡ t → C
-    tested true e = f (eqb-true a b e)
-    tested false e = g (eqb-false a b e)
-
-  pub if-below : (a < b → C) → (b ≤ a → C) → C
-  if-below f g = tested (ltb a b) refl where
-    tested : (t : Bool) → ltb a b ≡ t → C
-    tested true e = f (ltb-true a b e)
-    tested false e = g (ltb-false a b e)
-
--- What holds of either side of a choice, each by its test.
-module _ {A : Type 0} (P : A → Type 0) where
-  pub chosen : (t : Bool) {x y : A} → (T t → P x) → (T (not t) → P y) → P (cond t x y)
-  chosen true f g = f tt
-  chosen false f g = g tt
-
--- Two numbers that a test tells apart; one of two tests that holds.
-pub not-same : (a b : ℕ) → T (not (eqb a b)) → a ≡ b → ⊥
-not-same a b t e = T-not (eqb a b) t (subst (λ (k : ℕ). T (eqb a k)) e (eqb-refl a))
-
-pub or-first : (x y : Bool) → T x → T (x || y)
-or-first true y t = tt
-or-first false y t = absurd t
-
-pub or-second : (x y : Bool) → T y → T (x || y)
-or-second true y t = tt
-or-second false y t = t
 
 -- Two whole numbers are the same where the test says so.
 pub eqZ-eq : (a b : ℤ) → T (eqZ a b) → a ≡ b
@@ -109,7 +77,7 @@ vm-range {a} {b} s = both-of (leZ (a +ℤ pos 1) b) (leZ b (pos 2560000)) (s .ap
 
 -- ER may be this; a variable may hold this value.
 abbrev pub errorNumber : ℤ → Bool
-errorNumber z = eqZ z (pos 0) || between (pos 101) (pos 106) z
+errorNumber z = eqZ z (pos 0) || isError z
 
 abbrev pub mayHold : List ℤ → ℕ → ℤ → Bool
 mayHold vars v z = inRange (rangeOf v (read vars 8) (read vars 9)) z

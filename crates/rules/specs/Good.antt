@@ -1,35 +1,15 @@
 -- Document 01, "One turn": what the rules for a state ask of a statement. What it reads may be anything: each effect tests what it stores.
 -- Assumes nothing.
 use mathlib.Core.Path.{_≡_}
-use mathlib.Core.Bool.{Bool, true, false, _&&_, not}
+use mathlib.Core.Bool.{Bool, _&&_, not}
 use Prim.Native.Nat.{ℕ}
 use lib.Dec.{T, leb}
 use Rattle.numbers.specs.Tests.{allOf}
 use Rattle.program.specs.Variables.{present, readOnly}
-use Rattle.program.specs.Statements.{Statement, Set, SetWith, IC, DC, BR, CL, RT, E, H, Hold, OE, Disarm, MA, MR, SL, PR, writes, targets}
+use Rattle.program.specs.Statements.{Statement, writes, targets, isHold}
 use Rattle.effects.specs.declared.Effect.{Effect}
 use Rattle.effects.specs.Effects.{effect}
 use Rattle.machine.specs.declared.Machine.{Machine}
-
--- Turn 5: an `H x`.
-module _ {R : Type 0} where
-  unfoldable pub isHold : Statement R → Bool
-  isHold (Set v x) = false
-  isHold (SetWith v x o y) = false
-  isHold (IC v) = false
-  isHold (DC v) = false
-  isHold (BR n c) = false
-  isHold (CL n c) = false
-  isHold RT = false
-  isHold E = false
-  isHold H = false
-  isHold (Hold x) = true
-  isHold (OE n) = false
-  isHold Disarm = false
-  isHold (MA x) = false
-  isHold (MR x) = false
-  isHold (SL x) = false
-  isHold (PR x) = false
 
 -- Variables 1: a variable that a statement may write.
 unfoldable pub writable : ℕ → ℕ → Bool

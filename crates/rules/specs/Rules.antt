@@ -6,8 +6,9 @@ use Prim.Native.Nat.{ℕ, _≤_}
 use lib.Dec.{T}
 use lib.IntN.{pos}
 use lib.ListN.{length, getD}
-use Rattle.numbers.specs.Tests.{between, eqZ}
+use Rattle.numbers.specs.Tests.{eqZ}
 use Rattle.program.specs.Variables.{inRange, literals, slewRange, rangeOf, present, allInputs}
+use Rattle.effects.specs.Errors.{isError}
 use Rattle.effects.specs.Effects.{read}
 use Rattle.machine.specs.declared.Machine.{Machine}
 use Rattle.machine.specs.declared.Motion.{Motion}
@@ -23,7 +24,7 @@ goodMotion (Slewing z) = inRange slewRange z
 -- Turn 3 to 5, Variables 4: the rules for a state of a program with these counts; `holds k` says that cell k is an `H x`.
 pub record Ruled (cells variables : ℕ) (holds : ℕ → Bool) (m : Machine) : Type 0 where
   pub all-there : (length (m .variables) ≡ 64) × (length (m .places .cells) ≡ 8)
-  pub error : T (eqZ (read (m .variables) 10) (pos 0) || between (pos 101) (pos 106) (read (m .variables) 10))
+  pub error : T (eqZ (read (m .variables) 10) (pos 0) || isError (read (m .variables) 10))
   pub in-range : (v : ℕ) → T (present variables v) → (v ≡ 10 → ⊥) → T (inRange (rangeOf v (read (m .variables) 8) (read (m .variables) 9)) (read (m .variables) v))
   pub inputs : read (m .variables) 20 ≡ allInputs (m .variables)
   pub moving : read (m .variables) 14 ≡ movingBit (m .motion)

@@ -1,7 +1,7 @@
 -- The slots that the code walks took what the paper's slots took, and so does a whole form.
 -- Assumes nothing.
 use mathlib.Core.Path.{_≡_, refl, sym, ap, ap₂, subst, _∙_}
-use mathlib.Core.Bool.{Bool, true, false, cond, _&&_, not}
+use mathlib.Core.Bool.{Bool, true, false, cond, _&&_, not, true≢false, and-false}
 use mathlib.Core.List.{List, [], _∷_}
 use mathlib.Core.Option.{Option, none, some}
 use Prim.Native.Nat.{ℕ, zero, suc, _+_, _-_, _≤_, _<_, max}
@@ -13,11 +13,12 @@ use lib.ListN.{length, drop, length-drop}
 use lib.Seq.{drop-drop}
 use Rattle.numbers.specs.Bytes.{ascii}
 use Rattle.numbers.specs.Tests.{eqList}
+use Rattle.numbers.proofs.Truth.{is-true, eqb-turn, same-test}
 use Rattle.program.specs.Names.{Name, twoCharacters, userName}
 use Rattle.program.specs.Code.{key, nameOf}
 use Rattle.program.specs.Statements as Said
 use Rattle.program.specs.Statements.{Literal, Variable, BitXor, AtLeast}
-use Rattle.program.proofs.Keys.{Characters, IsWord, two-word, user-word, same-test}
+use Rattle.program.proofs.Keys.{Characters, IsWord, two-word, user-word}
 use Rattle.text.specs.Tokens as Paper
 use Rattle.text.specs.Forms as Form
 use Rattle.text.specs.Forms.{digits, decimal, took, literal, variable, operand, variableName, operatorMeant, comparisonMeant, Parts, Slot, Is, New, Target, Written, Left, Right, Start, Operating, Comparing, put, word, sign, takes, fill, naming, writing, onLeft, operating, comparing, onRight, starting}
@@ -58,9 +59,6 @@ front (t ∷ ts) = pack t
 abbrev pub whether : {A : Type 0} → Bool → A → List Paper.Token → Option (Form.Taken A)
 whether b a ts = cond b (took a ts) none
 
-never : true ≡ false → ⊥
-never e = let q : _≡_ {A = ℕ} 0 1 = cc in omega arith
-
 module _ {A : Type 0} where
   pub cond-yes : (b : Bool) (x y : A) → b ≡ true → cond b x y ≡ x
   cond-yes b x y e = rw e
@@ -73,10 +71,6 @@ module _ {A : Type 0} where
   whether-same b false e f g = rw e
 
 -- Literals and operands.
-and-false : (t : Bool) → (t && false) ≡ false
-and-false true = refl
-and-false false = refl
-
 and-move : (x y z : Bool) → (x && (y && z)) ≡ ((x && y) && z)
 and-move true y z = refl
 and-move false y z = refl
@@ -90,11 +84,11 @@ module _ (k v : ℕ) (g : Bool) (u : Token) where
   digits-first : (d : Bool) → d ≡ true → literalBy (token k d (cond d v 0) g) u ≡ taken 1 (Val.Literal false v)
   unfolding literalBy
   digits-first true e = refl
-  digits-first false e = absurd (never (sym e))
+  digits-first false e = absurd (true≢false (sym e))
 
   minus-first : (d x : Bool) → d ≡ false → ((eqb k 45 && g) && u .digits) ≡ x → literalBy (token k d (cond d v 0) g) u ≡ cond x (taken 2 (Val.Literal true (u .value))) (taken 0 zeroValue)
   unfolding literalBy
-  minus-first true x e f = absurd (never e)
+  minus-first true x e f = absurd (true≢false e)
   minus-first false x e f = rw f
 
 abbrev found : List Paper.Token → Taken → Option (Form.Taken ℤ)
@@ -129,7 +123,7 @@ literal-minus t u ts x e g f =
   where
     last : (a b : Bool) → (a && b) ≡ true → b ≡ true
     last true b e = e
-    last false b e = absurd (never (sym e))
+    last false b e = absurd (true≢false (sym e))
 
     value-is : (b : Bool) → b ≡ true → decimal 0 (u .chars) ≡ cond b (decimal 0 (u .chars)) 0
     value-is b e = rw e
@@ -258,9 +252,6 @@ operand-inside (t ∷ ts) =
     used-cond (eqb (litOf (t ∷ ts) .used) 0) _ _ _ (used-cond (variableName (nameOf (pack t .key))) _ _ _ (omega arith) (omega arith)) (literal-inside (t ∷ ts))
 
 -- A slot that takes these very characters.
-eqb-turn : (a b : ℕ) → eqb a b ≡ eqb b a
-eqb-turn a b = same-test (eqb a b) (eqb b a) (λ t. subst (λ (k : ℕ). T (eqb k a)) (eqb→eq a b t) (eqb-refl a)) (λ t. subst (λ (k : ℕ). T (eqb k b)) (eqb→eq b a t) (eqb-refl b))
-
 fixed-law : (n : ℕ) → 0 < n → (ts : List Paper.Token) (p : Parts) → Goods ts
     → put (λ (w : Name). p) (word (λ (w : Name). eqList w (nameOf n)) ts) ≡ whether (eqb n (front ts .key)) p (drop 1 ts)
 unfolding put word pack
@@ -292,10 +283,6 @@ slot-fixed m n t u h =
       ne-eqb n 7 (λ e. omega arith),
       ne-eqb n 8 (λ e. omega arith),
     )
-
-true-of : (b : Bool) → T b → b ≡ true
-true-of true t = refl
-true-of false t = absurd t
 
 operator-law : (p : Parts) (ts : List Paper.Token) → Goods ts
     → put (operating p) (sign operatorMeant ts)
@@ -357,7 +344,7 @@ module _ (whole : List Paper.Token) (m : Match) (e : m .ok ≡ true) (g : Goods 
       comparison-law (partsOf m) ts g ∙ after-onward whole (withComparison m (front ts .key)) (isComparison (nameOf (front ts .key))) 1 e
   slot-law (fixed n t) =
       let ts = drop (m .place) whole in
-      let h : 8 < n = ltb-true 8 n (true-of (ltb 8 n) t) in
+      let h : 8 < n = ltb-true 8 n (is-true (ltb 8 n) t) in
       fixed-law n (omega arith) ts (partsOf m) g
       ∙ after-onward whole m (eqb n (front ts .key)) 1 e
       ∙ ap (after whole) (sym (slot-fixed m n (front ts) (front (drop 1 ts)) h))
@@ -373,7 +360,7 @@ slot-used m ts right = omega (arith, operand-inside ts)
 slot-used m ts start = omega (arith, literal-inside ts)
 slot-used m ts operator = omega arith
 slot-used m ts comparison = omega arith
-slot-used m ts (fixed n t) = rw (slot-fixed m n (front ts) (front (drop 1 ts)) (ltb-true 8 n (true-of (ltb 8 n) t))) (omega arith)
+slot-used m ts (fixed n t) = rw (slot-fixed m n (front ts) (front (drop 1 ts)) (ltb-true 8 n (is-true (ltb 8 n) t))) (omega arith)
 
 takes-none : (s : Slot) (p : Parts) → takes s [] p ≡ none
 unfolding takes put word sign operand literal variable

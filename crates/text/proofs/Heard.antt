@@ -1,17 +1,19 @@
 -- What the layers above need of a line that is heard: its names are words, and what the paper asks of it is asked of its reading.
 -- Assumes nothing.
 use mathlib.Core.Path.{_≡_, refl, sym, ap, ap₂, subst, _∙_}
-use mathlib.Core.Bool.{Bool, true, false, cond, _&&_, _||_, not}
+use mathlib.Core.Bool.{Bool, true, false, cond, _&&_, _||_, not, or-false}
 use mathlib.Core.List.{List, [], _∷_}
 use mathlib.Core.Logic.{⊎-elim}
 use mathlib.Core.Option.{Option, none, some}
 use Prim.Native.Nat.{ℕ, _<_}
 use native.Mathlib.Omega.{arith}
 use borrow.Author.Tests.{ne-eqb}
-use lib.Dec.{T, eqb, leb, leb→le, eqb→eq, eqb-refl}
+use lib.Dec.{T, eqb, leb, leb→le, eqb→eq}
 use lib.ListN.{length}
 use Rattle.numbers.specs.Bytes.{number}
 use Rattle.numbers.specs.Tests.{allOf, anyOf, lowest}
+use Rattle.numbers.proofs.Tests.{Each}
+use Rattle.numbers.proofs.Truth.{neither, both, both-of, either}
 use Rattle.program.specs.Names.{Name, letter, digit, wordCharacter, reserved, paperVariable, twoCharacters, userName}
 use Rattle.program.specs.Variables.{readOnly, mostCells, mostLabels, mostVariables}
 use Rattle.program.specs.Code.{key, nameOf}
@@ -21,7 +23,8 @@ use Rattle.program.specs.Statements as Said
 use Rattle.program.specs.Statements.{Literal, Variable, Always, Compare, Statement, operands, writes, targets, compared, Set, SetWith, IC, DC, BR, CL, RT, E, H, Hold, OE, Disarm, MA, MR, SL, PR}
 use Rattle.program.specs.declared.Operand.{Operand}
 use Rattle.program.specs.declared.Operand.the-variants as O
-use Rattle.program.proofs.Keys.{both, both-of, either, same-test, name-key, key-positive, user-word}
+use Rattle.program.proofs.Keys.{name-key, key-positive, user-word, user-two}
+use Rattle.program.proofs.Statements as Fields
 use Rattle.text.specs.Tokens as Paper
 use Rattle.text.specs.Tokens.{printable, uncommented, tokens}
 use Rattle.text.specs.Forms as Form
@@ -30,9 +33,6 @@ use Rattle.text.specs.Faults.{longLine, badForm, bigLiteral, reservedNam
 use Rattle.text.specs.Code.{saidBy, readingOf, aimsAt, inOperand, placed, written, operandWith, resolved}
 use Rattle.text.proofs.Words.{variable-word}
 use Rattle.text.proofs.Rows.{HoldsAt, Filled, filled, Rows, last, next, rows, Known, Named, Sound}
-
-never : true ≡ false → ⊥
-never e = let q : _≡_ {A = ℕ} 0 1 = cc in omega arith
 
 -- What a form makes sure of.
 abbrev SoundAt : Option Line → Type 0
@@ -53,7 +53,7 @@ unfolding statement
 statement-sound [] = tt
 statement-sound (t ∷ ts) = form-sound rows (t ∷ ts)
 
-reading-sound : (l : List ℕ) → SoundAt (reading l)
+pub reading-sound : (l : List ℕ) → SoundAt (reading l)
 unfolding reading
 reading-sound l = pick (allOf printable l)
   where
@@ -68,13 +68,9 @@ Fine (Label w) = T (userName w)
 Fine (Declared w z) = T (userName w) × (tooBig z ≡ false)
 Fine (Acts s) = Named s × (anyOf bigValue (operands s) ≡ false)
 
-or-none : (b : Bool) → (b || false) ≡ false → b ≡ false
-or-none true e = absurd (never e)
-or-none false e = refl
-
 own-name : (w : Name) → T (twoCharacters w) → (reserved w || false) ≡ false → T (userName w)
 unfolding userName
-own-name w t e = both-of (twoCharacters w) (not (reserved w)) t (subst (λ (b : Bool). T (not b)) (sym (or-none (reserved w) e)) tt)
+own-name w t e = both-of (twoCharacters w) (not (reserved w)) t (subst (λ (b : Bool). T (not b)) (sym (neither (reserved w) false e .0)) tt)
 
 fine : (x : Line) → Sound x → bigIn x ≡ false → anyOf reserved (declares x) ≡ false → Fine x
 unfolding bigIn anyOf declares
@@ -136,13 +132,6 @@ variable-kind (Declared w z) = refl
 variable-kind (Acts s) = refl
 
 -- The name that a line declares, by its key.
-pub eqb-turn : (a b : ℕ) → eqb a b ≡ eqb b a
-eqb-turn a b = same-test (eqb a b) (eqb b a) (λ t. subst (λ (k : ℕ). T (eqb k a)) (eqb→eq a b t) (eqb-refl a)) (λ t. subst (λ (k : ℕ). T (eqb k b)) (eqb→eq b a t) (eqb-refl b))
-
-or-false : (b : Bool) → (b || false) ≡ b
-or-false true = refl
-or-false false = refl
-
 -- A line that declares a name has its key; the name is the user's.
 
 -- The lowest fault: one of the four of the line by itself, or one of the other four.
@@ -189,10 +178,6 @@ two-low (a ∷ b ∷ c ∷ w) t =
     absurd (omega arith)
 
 -- The target of a cell is the key of a label.
-user-two : (n : Name) → T (userName n) → T (twoCharacters n)
-unfolding userName
-user-two n t = both (twoCharacters n) (not (reserved n)) t .0
-
 aims-at : (n : Name) → T (userName n) → aimsAt (key n) ≡ true
 unfolding noTarget
 aims-at n t =
@@ -213,48 +198,23 @@ module _ (P : Name → Bool) where
       let i = variable-word v t in
       or-false (P v) ∙ sym (ap₂ (λ (b : Bool) (w : Name). not b && P w) (ne-eqb (key v) 0 (λ e. let p = key-positive i in omega arith)) (name-key v i))
 
+  aim-asked : {ns : List Name} {t : ℕ} → Fields.AimedBy key key ns t → Each (λ (n : Name). T (userName n)) ns → anyOf P ns ≡ (aimsAt t && P (nameOf t))
+  unfolding anyOf noTarget
+  aim-asked Fields.unaimed h = refl
+  aim-asked Fields.disarmed h = refl
+  aim-asked (Fields.aimed n) h = one-aim n (h .0)
+
+  write-asked : {vs : List Name} {w : ℕ} → Fields.WrittenBy key key vs w → Each (λ (v : Name). T (variableName v)) vs → anyOf P vs ≡ (not (eqb w 0) && P (nameOf w))
+  unfolding anyOf
+  write-asked Fields.unwritten h = refl
+  write-asked (Fields.wrote v) h = one-write v (h .0)
+
   -- A test of a statement's label, and of the variable that it writes.
   pub target-asked : (s : Statement Name) → Named s → anyOf P (targets s) ≡ (aimsAt (cellOf key key s .target) && P (nameOf (cellOf key key s .target)))
-  unfolding targets anyOf cellOf jumpOf noTarget
-  target-asked (Set v x) h = refl
-  target-asked (SetWith v x o y) h = refl
-  target-asked (IC v) h = refl
-  target-asked (DC v) h = refl
-  target-asked (BR n Always) h = one-aim n (h .aims .0)
-  target-asked (BR n (Compare x c y)) h = one-aim n (h .aims .0)
-  target-asked (CL n Always) h = one-aim n (h .aims .0)
-  target-asked (CL n (Compare x c y)) h = one-aim n (h .aims .0)
-  target-asked RT h = refl
-  target-asked E h = refl
-  target-asked H h = refl
-  target-asked (Hold x) h = refl
-  target-asked (OE n) h = one-aim n (h .aims .0)
-  target-asked Disarm h = refl
-  target-asked (MA x) h = refl
-  target-asked (MR x) h = refl
-  target-asked (SL x) h = refl
-  target-asked (PR x) h = refl
+  target-asked s h = aim-asked (Fields.cell-has key key s .target) (h .aims)
 
   pub written-asked : (s : Statement Name) → Named s → anyOf P (writes s) ≡ (not (eqb (cellOf key key s .written) 0) && P (nameOf (cellOf key key s .written)))
-  unfolding writes anyOf cellOf jumpOf
-  written-asked (Set v x) h = one-write v (h .sets .0)
-  written-asked (SetWith v x o y) h = one-write v (h .sets .0)
-  written-asked (IC v) h = one-write v (h .sets .0)
-  written-asked (DC v) h = one-write v (h .sets .0)
-  written-asked (BR n Always) h = refl
-  written-asked (BR n (Compare x c y)) h = refl
-  written-asked (CL n Always) h = refl
-  written-asked (CL n (Compare x c y)) h = refl
-  written-asked RT h = refl
-  written-asked E h = refl
-  written-asked H h = refl
-  written-asked (Hold x) h = refl
-  written-asked (OE n) h = refl
-  written-asked Disarm h = refl
-  written-asked (MA x) h = refl
-  written-asked (MR x) h = refl
-  written-asked (SL x) h = refl
-  written-asked (PR x) h = refl
+  written-asked s h = write-asked (Fields.cell-has key key s .written) (h .sets)
 
 module _ (P : Said.Value Name → Bool) where
   in-operand : (x : Said.Value Name) → Known x → inOperand P (Cells.operandOf key key x) ≡ P x
@@ -270,27 +230,15 @@ module _ (P : Said.Value Name → Bool) where
   unfolding anyOf
   two-read x y k j = ap₂ (λ (a b : Bool). a || b) (sym (in-operand x k)) (or-false (P y) ∙ sym (in-operand y j))
 
+  read-asked : {xs : List (Said.Value Name)} {l r : Operand} → Fields.ReadBy key key xs l r → Each Known xs → anyOf P xs ≡ (inOperand P l || inOperand P r)
+  unfolding anyOf
+  read-asked Fields.none h = refl
+  read-asked (Fields.one x) h = one-read x (h .0)
+  read-asked (Fields.two x y) h = two-read x y (h .0) (h .1 .0)
+
   -- A test of a statement's operands.
   pub operands-asked : (s : Statement Name) → Named s → anyOf P (operands s) ≡ (inOperand P (cellOf key key s .left) || inOperand P (cellOf key key s .right))
-  unfolding operands compared anyOf cellOf jumpOf
-  operands-asked (Set v x) h = one-read x (h .reads .0)
-  operands-asked (SetWith v x o y) h = two-read x y (h .reads .0) (h .reads .1 .0)
-  operands-asked (IC v) h = refl
-  operands-asked (DC v) h = refl
-  operands-asked (BR n Always) h = refl
-  operands-asked (BR n (Compare x c y)) h = two-read x y (h .reads .0) (h .reads .1 .0)
-  operands-asked (CL n Always) h = refl
-  operands-asked (CL n (Compare x c y)) h = two-read x y (h .reads .0) (h .reads .1 .0)
-  operands-asked RT h = refl
-  operands-asked E h = refl
-  operands-asked H h = refl
-  operands-asked (Hold x) h = one-read x (h .reads .0)
-  operands-asked (OE n) h = refl
-  operands-asked Disarm h = refl
-  operands-asked (MA x) h = one-read x (h .reads .0)
-  operands-asked (MR x) h = one-read x (h .reads .0)
-  operands-asked (SL x) h = one-read x (h .reads .0)
-  operands-asked (PR x) h = one-read x (h .reads .0)
+  operands-asked s h = read-asked (Fields.cell-has key key s .read) (h .reads)
 
 module _ (place number : Name → ℕ) where
   aim-with : (n : Name) → T (userName n) → place n ≡ placed place (key n)

@@ -1,7 +1,7 @@
 -- Laws of the lines of a text: the line at a place, and the lines before a place where one starts.
 -- Assumes nothing.
 use mathlib.Core.Path.{_≡_, refl, sym, ap, _∙_}
-use mathlib.Core.Bool.{Bool, true, false, cond, _&&_, _||_}
+use mathlib.Core.Bool.{Bool, true, false, cond, _&&_, _||_, true≢false, and-false}
 use mathlib.Core.List.{List, [], _∷_, _++_, append-assoc, append-nil, append-cancel-right}
 use mathlib.Core.Logic.{⊎-elim, _⊎_, inl, inr}
 use Prim.Native.Nat.{ℕ, zero, suc, _+_, _-_, _<_, _≤_, zero-le, suc-le-suc}
@@ -186,14 +186,10 @@ unfolding ontoFirstLine
 some-before b [] = tt
 some-before b (l ∷ ls) = tt
 
-neither : (x : Bool) → (x && false) ≡ true → ⊥
-neither true e = let q : _≡_ {A = ℕ} 0 1 = cc in omega arith
-neither false e = let q : _≡_ {A = ℕ} 0 1 = cc in omega arith
-
 some-lines : (b : ℕ) (bs : List ℕ) → Some (lines (b ∷ bs))
 unfolding lines
 some-lines b [] =
-    some-cond (eqb b 10) (eqb b 13 && eqb 0 10) ([] ∷ []) [] (ontoFirstLine b []) tt (λ e. absurd (neither (eqb b 13) e)) (some-before b [])
+    some-cond (eqb b 10) (eqb b 13 && eqb 0 10) ([] ∷ []) [] (ontoFirstLine b []) tt (λ e. absurd (true≢false (sym e ∙ and-false (eqb b 13)))) (some-before b [])
 some-lines b (c ∷ cs) =
     some-cond (eqb b 10) (eqb b 13 && eqb c 10) ([] ∷ lines (c ∷ cs)) (lines (c ∷ cs)) (ontoFirstLine b (lines (c ∷ cs))) tt (λ e. some-lines c cs)
     (some-before b (lines (c ∷ cs)))

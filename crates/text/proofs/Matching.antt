@@ -1,7 +1,7 @@
 -- What the functions that match tokens with forms need of their values.
 -- Assumes nothing.
 use mathlib.Core.Path.{_≡_, refl, sym, ap, _∙_}
-use mathlib.Core.Bool.{Bool, true, false, cond, _&&_, not}
+use mathlib.Core.Bool.{Bool, true, false, cond, _&&_, not, and-true}
 use mathlib.Core.List.{List, [], _∷_}
 use Prim.Native.Nat.{ℕ, zero, suc, _+_, _-_, _≤_, _<_}
 use native.Mathlib.Nat.{not-suc-le-zero, le-of-suc-le-suc}
@@ -16,9 +16,10 @@ use mir.Syntax.{w32}
 use mir.Val.{SFits}
 use Rattle.numbers.specs.Bytes.{number, ascii}
 use Rattle.numbers.specs.Tests.{allOf, eqList, numbered}
+use Rattle.numbers.proofs.Truth.{both}
 use Rattle.program.specs.Names.{reserved, mnemonics, variableNames, paperVariable}
 use Rattle.program.specs.Code.{key, nameOf}
-use Rattle.program.proofs.Keys.{both, key-name}
+use Rattle.program.proofs.Keys.{key-name}
 use Rattle.text.specs.Faults.{tooBig, bigValue}
 use Rattle.text.specs.Forms.{Parts, variableName}
 use Rattle.text.specs.Code.{tokenAt, meaning, valueOf, startOf, spelt, smallOf, literalBy, variableBy, operandBy, noMatch, slotBy, wordBy, fillBy, slotTable, slotsOf, sayOf, partsOf, anyBig, sayBy, partsBy, readParts, faulty, formBy, formNumbers}
@@ -35,10 +36,6 @@ not-leb a b = pick (leb a b) refl
     pick : (t : Bool) → leb a b ≡ t → not t ≡ ltb b a
     pick true e = sym (le-ltb b a (leb-true a b e))
     pick false e = sym (lt-ltb b a (leb-false a b e))
-
-and-true : (t : Bool) → (t && true) ≡ t
-and-true true = refl
-and-true false = refl
 
 ltb-step : (a b : ℕ) → ltb a b ≡ ltb (suc a) (suc b)
 ltb-step a b = pick (ltb a b) refl

@@ -14,10 +14,10 @@ use lib.ListN.{length, drop, getD, set, replicate, length-append, length-map, dr
 use lib.Seq.{set-at, append-snoc}
 use Rattle.numbers.specs.Tests.{allOf, eqList}
 use Rattle.numbers.specs.Bytes.{ascii}
+use Rattle.numbers.proofs.Truth.{both}
 use Rattle.program.specs.Names.{Name, twoCharacters, userName}
 use Rattle.program.specs.Statements as Said
 use Rattle.program.specs.Statements.{Literal, Variable}
-use Rattle.program.proofs.Keys.{both}
 use Rattle.text.specs.Tokens as Paper
 use Rattle.text.specs.Forms as Form
 use Rattle.text.specs.Forms.{Line, digits, decimal, took, literal, variable, operand, variableName, operatorMeant, comparisonMeant, Parts, noParts, forms, naming, writing, onLeft, operating, comparing, onRight, starting, Slot, Is, New, Target, Written, Left, Right, Start, Operating, Comparing, put, word, sign, takes, fill, byForm}

@@ -1,7 +1,7 @@
 -- The tokens that the code reads are those of the paper, packed.
 -- Assumes nothing.
 use mathlib.Core.Path.{_≡_, refl, sym, ap, ap₂, _∙_}
-use mathlib.Core.Bool.{Bool, true, false, cond, _&&_, _||_, not}
+use mathlib.Core.Bool.{Bool, true, false, cond, _&&_, _||_, not, and-true}
 use mathlib.Core.List.{List, [], _∷_, _++_}
 use Prim.Native.Nat.{ℕ, zero, suc, _+_, _*_, _-_, _<_}
 use native.Mathlib.Numerals.{add-one}
@@ -40,11 +40,7 @@ key-more (a ∷ b ∷ w) c h =
 
 all-more : (w : List ℕ) (c : ℕ) → allOf digit (w ++ (c ∷ [])) ≡ (allOf digit w && digit c)
 unfolding allOf
-all-more [] c = pick (digit c)
-  where
-    pick : (t : Bool) → (t && true) ≡ t
-    pick true = refl
-    pick false = refl
+all-more [] c = and-true (digit c)
 all-more (a ∷ w) c = pick (digit a) (all-more w c)
   where
     pick : (t : Bool) → allOf digit (w ++ (c ∷ [])) ≡ (allOf digit w && digit c) → (t && allOf digit (w ++ (c ∷ []))) ≡ ((t && allOf digit w) && digit c)

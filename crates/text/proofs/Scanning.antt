@@ -1,9 +1,9 @@
 -- Laws of the reading of tokens, character by character.
 -- Assumes nothing.
 use mathlib.Core.Path.{_≡_, refl, sym, ap, ap₂, _∙_}
-use mathlib.Core.Bool.{Bool, true, false, cond, _&&_}
+use mathlib.Core.Bool.{Bool, true, false, cond, _&&_, and-eq-true-iff}
 use mathlib.Core.List.{List, [], _∷_}
-use Prim.Native.Nat.{ℕ, zero, suc, _+_, _-_, _^_, _≤_, _<_}
+use Prim.Native.Nat.{ℕ, zero, suc, _+_, _^_, _≤_, _<_}
 use native.Mathlib.Nat.{pow-suc, pow-le-pow-right, zero-lt-suc, not-suc-le-zero, le-of-suc-le-suc}
 use native.Mathlib.Numerals.{add-one}
 use native.Mathlib.Omega.{arith}
@@ -25,20 +25,16 @@ inside (b ∷ bs) zero x y h = refl
 inside (b ∷ bs) (suc i) x y h = inside bs i x y (le-of-suc-le-suc h)
 
 -- Tests that hold together.
-pub both-hold : (x y : Bool) → (x && y) ≡ true → (x ≡ true) × (y ≡ true)
-both-hold true y e = (refl, e)
-both-hold false y e = (e, cc)
-
 digit-size : (c : ℕ) → digit c ≡ true → (47 < c) × (c < 58)
 unfolding digit
-digit-size c e = let p = both-hold (leb 48 c) (leb c 57) e in (omega (arith, leb-true 48 c (p .0)), omega (arith, leb-true c 57 (p .1)))
+digit-size c e = let p = and-eq-true-iff (leb 48 c) (leb c 57) .0 e in (omega (arith, leb-true 48 c (p .0)), omega (arith, leb-true c 57 (p .1)))
 
 -- One digit more of a number that is small enough.
 digit-more : (w : Word) (c : ℕ) → Room w → moreDigits w c ≡ true → (w .value < 1000000000) × (47 < c)
 unfolding moreDigits
 digit-more w c r e =
-    let p = both-hold (w .digits && digit c) (ltb (w .size) 10) e in
-    let d = digit-size c (both-hold (w .digits) (digit c) (p .0) .1) in
+    let p = and-eq-true-iff (w .digits && digit c) (ltb (w .size) 10) .0 e in
+    let d = digit-size c (and-eq-true-iff (w .digits) (digit c) .0 (p .0) .1) in
     let s : w .size ≤ 9 = omega (arith, ltb-true (w .size) 10 (p .1)) in
     let q : 10 ^ w .size ≤ 10 ^ 9 = pow-le-pow-right (zero-lt-suc 9) s in
     (omega (arith, r .small), d .0)
@@ -47,8 +43,8 @@ value-small : (w : Word) (c : ℕ) (t : Bool) → moreDigits w c ≡ t → w .va
 unfolding moreDigits valueWith
 value-small w c false e h = let p : 10 ^ 0 ≤ 10 ^ (w .size + 1) = pow-le-pow-right (zero-lt-suc 9) {i = 0} (omega arith) in p
 value-small w c true e h =
-    let p = both-hold (w .digits && digit c) (ltb (w .size) 10) e in
-    let d = digit-size c (both-hold (w .digits) (digit c) (p .0) .1) in
+    let p = and-eq-true-iff (w .digits && digit c) (ltb (w .size) 10) .0 e in
+    let d = digit-size c (and-eq-true-iff (w .digits) (digit c) .0 (p .0) .1) in
     rw (add-one, pow-suc) (omega arith)
 
 -- One character more, by its parts.

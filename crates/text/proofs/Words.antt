@@ -10,9 +10,11 @@ use borrow.Author.Tests.{leb-true, leb-false, ne-eqb}
 use lib.Dec.{T, eqb, leb}
 use lib.ListN.{length, getD}
 use Rattle.numbers.specs.Tests.{allOf, eqList, numbered}
+use Rattle.numbers.proofs.Truth.{is-true, is-no, not-same, both, either}
+use Rattle.numbers.proofs.Tests.{eqList-eq}
 use Rattle.program.specs.Names.{Name, paperVariable, userName}
 use Rattle.program.specs.Code.{key, nameOf}
-use Rattle.program.proofs.Keys.{both, either, Character, Characters, IsWord, single, double, word-of, name-key, name-one, name-two, one-or-two, key-positive, eq-key-name, eqList-eq, user-word, paper-word, numbered-word, isWord}
+use Rattle.program.proofs.Keys.{Character, Characters, IsWord, single, double, word-of, name-key, name-one, name-two, one-or-two, key-positive, eq-key-name, user-word, paper-word, numbered-word, isWord}
 use Rattle.text.specs.Tokens as Paper
 use Rattle.text.specs.Tokens.{printable, uncommented, joins, ontoFirstToken, tokens}
 use Rattle.text.specs.Forms.{variableName}
@@ -30,11 +32,7 @@ printable-character : (c : ℕ) → T (printable c) → Character c
 unfolding printable
 printable-character c t =
     let p = both (leb 32 c) (leb c 126) t in
-    (omega (arith, leb-true 32 c (true-of (leb 32 c) (p .0))), omega (arith, leb-true c 126 (true-of (leb c 126) (p .1))))
-  where
-    true-of : (b : Bool) → T b → b ≡ true
-    true-of true t = refl
-    true-of false t = absurd t
+    (omega (arith, leb-true 32 c (is-true (leb 32 c) (p .0))), omega (arith, leb-true c 126 (is-true (leb c 126) (p .1))))
 
 printable-characters : (l : List ℕ) → T (allOf printable l) → Characters l
 unfolding allOf
@@ -90,20 +88,16 @@ zero-name = refl
 zero-no-word : IsWord (0 ∷ []) → ⊥
 zero-no-word (single p) = let h = p .0 in omega arith
 
-no-test : (b : Bool) → (T b → ⊥) → b ≡ false
-no-test true f = absurd (f tt)
-no-test false f = refl
-
 -- A test that only words pass.
 module _ (P : Name → Bool) (passed : (w : Name) → T (P w) → IsWord w) where
   pub asked-none : P (nameOf 0) ≡ false
-  asked-none = no-test (P (nameOf 0)) (λ t. zero-no-word (subst IsWord zero-name (passed (nameOf 0) t)))
+  asked-none = is-no (P (nameOf 0)) (λ t. zero-no-word (subst IsWord zero-name (passed (nameOf 0) t)))
 
   pub asked : (w : Name) → Characters w → 0 < length w → P (nameOf (shortKey w)) ≡ P w
   asked w h l =
       ⊎-elim
       (λ s. ap P (ap nameOf (s .1) ∙ name-key w (s .0)))
-      (λ s. ap (λ (k : ℕ). P (nameOf k)) (s .1) ∙ asked-none ∙ sym (no-test (P w) (λ t. word-short (passed w t) (s .0))))
+      (λ s. ap (λ (k : ℕ). P (nameOf k)) (s .1) ∙ asked-none ∙ sym (is-no (P w) (λ t. word-short (passed w t) (s .0))))
       (word-or-long w h l)
 
   pub named : (w : Name) → Characters w → 0 < length w → P w ≡ true → nameOf (shortKey w) ≡ w
@@ -119,12 +113,9 @@ module _ (P : Name → Bool) (passed : (w : Name) → T (P w) → IsWord w) wher
       (word-or-long w h l)
 
 -- A place in a table of words, as the test that there is one.
-not-zero : (n : ℕ) → T (not (eqb n 0)) → n ≡ 0 → ⊥
-not-zero n t e = subst (λ (k : ℕ). T (not (eqb k 0))) e t
-
 module _ (names : List Name) (all-words : T (allOf isWord names)) where
   pub listed-word : (w : Name) → T (not (eqb (numbered names w) 0)) → IsWord w
-  listed-word w t = numbered-word names w all-words (not-zero (numbered names w) t)
+  listed-word w t = numbered-word names w all-words (not-same (numbered names w) 0 t)
 
 -- The very characters of a key.
 name-short : (n : ℕ) → length (nameOf n) ≤ 2
@@ -135,11 +126,11 @@ spelled-so w n h l z =
     ⊎-elim
     (λ s. rw (s .1) (eq-key-name w n (s .0)))
     (λ s.
-    no-test (eqList w (nameOf n)) (λ t. let q : length w ≡ length (nameOf n) = ap length (eqList-eq w (nameOf n) t) in omega (arith, name-short n, s .0))
+    is-no (eqList w (nameOf n)) (λ t. let q : length w ≡ length (nameOf n) = ap length (eqList-eq w (nameOf n) t) in omega (arith, name-short n, s .0))
     ∙ rw (s .1) (sym (ne-eqb 0 n (λ e. omega arith))))
     (word-or-long w h l)
 
 -- A variable of the paper's or the user's is a word.
 pub variable-word : (w : Name) → T (variableName w) → IsWord w
 unfolding variableName
-variable-word w t = ⊎-elim (λ p. paper-word w (not-zero (paperVariable w) p)) (user-word w) (either (not (eqb (paperVariable w) 0)) (userName w) t)
+variable-word w t = ⊎-elim (λ p. paper-word w (not-same (paperVariable w) 0 p)) (user-word w) (either (not (eqb (paperVariable w) 0)) (userName w) t)

@@ -1,13 +1,15 @@
 -- What an accepted text is like: no line of it has any of the faults 2 to 9.
 -- Assumes nothing.
 use mathlib.Core.Path.{_≡_, refl}
-use mathlib.Core.Bool.{Bool, true, false, cond, _&&_, _||_, true≢false}
+use mathlib.Core.Bool.{Bool, true, false, cond, _&&_}
 use mathlib.Core.List.{List, [], _∷_, _++_, map, append-assoc, append-nil}
-use Prim.Native.Nat.{ℕ, zero, suc, _+_, _≤_}
+use Prim.Native.Nat.{ℕ, zero, suc, _≤_}
 use native.Mathlib.Omega.{arith}
 use lib.Dec.{eqb, eqb·suc-zero, leb}
 use borrow.Author.Tests.{leb-false}
 use Rattle.numbers.specs.Tests.{lowest}
+use Rattle.numbers.proofs.Truth.{neither}
+use Rattle.numbers.proofs.Tests.{Each}
 use Rattle.program.specs.Variables.{mostCells, mostLabels, mostVariables}
 use Rattle.names.specs.Code.{plus}
 use Rattle.names.proofs.Lines.{count-more}
@@ -17,8 +19,7 @@ use Rattle.text.specs.Faults.{longLine, reservedName, heard, repeated, tooMany,
 
 -- none of the tests holds
 abbrev pub NoneOf : List Bool → Type 0
-NoneOf [] = Unit {0}
-NoneOf (b ∷ bs) = (b ≡ false) × NoneOf bs
+NoneOf bs = Each (λ (b : Bool). b ≡ false) bs
 
 lowest-none : (n : ℕ) (bs : List Bool) → lowest (suc n) bs ≡ 0 → NoneOf bs
 unfolding lowest
@@ -42,15 +43,6 @@ pub clean : (text before : List Line) (line : ℕ) (ls : List (List ℕ)) → fi
 unfolding firstFrom faultsFrom
 clean text before line [] h = tt
 clean text before line (l ∷ ls) h = clean-step text before line (lowest 2 (faults text before l)) l ls refl (clean text (before ++ (heard l ∷ [])) (suc line) ls) h
-
--- one of several tests that do not hold
-left-false : (a b : Bool) → (a || b) ≡ false → a ≡ false
-left-false true b h = h
-left-false false b h = refl
-
-right-false : (a b : Bool) → (a || b) ≡ false → b ≡ false
-right-false true b h = absurd (true≢false h)
-right-false false b h = h
 
 -- no more lines pass a test than are allowed, where each that does is behind fewer
 limit-step : (b : Bool) (most n : ℕ) → (b && leb most n) ≡ false → n ≤ most → plus b n ≤ most
@@ -102,14 +94,13 @@ module _ (text : List Line) where
   cells-behind : (before : List Line) (ls : List (List ℕ)) → Clean text before ls → Behind makesCell mostCells before ls
   unfolding tooMany
   cells-behind before [] h = tt
-  cells-behind before (l ∷ ls) h = (left-false _ _ (no-many text before l (h .0)), cells-behind (before ++ (heard l ∷ [])) ls (h .1))
+  cells-behind before (l ∷ ls) h = (neither _ _ (no-many text before l (h .0)) .0, cells-behind (before ++ (heard l ∷ [])) ls (h .1))
 
   labels-behind : (before : List Line) (ls : List (List ℕ)) → Clean text before ls → Behind makesLabel mostLabels before ls
   unfolding tooMany
   labels-behind before [] h = tt
   labels-behind before (l ∷ ls) h = (
-    left-false (tests makesLabel mostLabels before l) (tests makesVariable mostVariables before l)
-        (right-false (tests makesCell mostCells before l) _ (no-many text before l (h .0))),
+    neither (tests makesLabel mostLabels before l) _ (neither (tests makesCell mostCells before l) _ (no-many text before l (h .0)) .1) .0,
     labels-behind (before ++ (heard l ∷ [])) ls (h .1),
   )
 
@@ -117,8 +108,7 @@ module _ (text : List Line) where
   unfolding tooMany
   variables-behind before [] h = tt
   variables-behind before (l ∷ ls) h = (
-    right-false (tests makesLabel mostLabels before l) (tests makesVariable mostVariables before l)
-        (right-false (tests makesCell mostCells before l) _ (no-many text before l (h .0))),
+    neither (tests makesLabel mostLabels before l) _ (neither (tests makesCell mostCells before l) _ (no-many text before l (h .0)) .1) .1,
     variables-behind (before ++ (heard l ∷ [])) ls (h .1),
   )
 

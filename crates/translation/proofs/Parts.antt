@@ -12,6 +12,7 @@ use lib.Seq.{sets, length-take-le, drop-drop}
 use Rattle.numbers.specs.Bytes.{bytes}
 use Rattle.numbers.specs.Bits.{digits32}
 use Rattle.numbers.proofs.Laws.{length-bytes}
+use Rattle.numbers.proofs.Tests.{Each}
 use Rattle.program.specs.Names.{Name}
 use Rattle.program.specs.Cells.{cellOf}
 use Rattle.text.specs.Forms.{Line, Blank, Label, Declared, Acts}
@@ -30,8 +31,7 @@ TwoNamed (Declared w z) = length w ≡ 2
 TwoNamed (Acts s) = Unit {0}
 
 abbrev pub AllTwo : List Line → Type 0
-AllTwo [] = Unit {0}
-AllTwo (x ∷ xs) = TwoNamed x × AllTwo xs
+AllTwo xs = Each TwoNamed xs
 
 length-label : (w : Name) (target : ℕ) → length w ≡ 2 → length (labelBytes w target) ≡ 4
 unfolding labelBytes

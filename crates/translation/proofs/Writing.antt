@@ -1,7 +1,7 @@
 -- What the code writes for a line is what the paper has for it, and the pass over the lines writes the parts of the image.
 -- Assumes nothing.
 use mathlib.Core.Path.{_≡_, refl, sym, ap, _∙_}
-use mathlib.Core.Bool.{Bool, true, false, cond, _&&_, _||_, not}
+use mathlib.Core.Bool.{Bool, true, false, cond, _&&_, _||_, not, true≢false}
 use mathlib.Core.List.{List, [], _∷_, _++_, map}
 use Prim.Native.Nat.{ℕ, zero, suc, _+_, _*_, _-_, _≤_}
 use native.Mathlib.Nat.{add-zero}
@@ -14,11 +14,12 @@ use lib.Seq.{sets, length-sets}
 use Rattle.numbers.specs.Bytes.{bytes}
 use Rattle.numbers.specs.Bits.{digits32}
 use Rattle.numbers.proofs.Laws.{Bytes}
+use Rattle.numbers.proofs.Truth.{both}
 use Rattle.program.specs.Names.{Name, letter, wordCharacter, paperVariable, reserved, twoCharacters, userName}
 use Rattle.program.specs.Code.{key, nameOf}
 use Rattle.program.specs.Cells.{noTarget}
 use Rattle.program.specs.declared.Cell.{Cell}
-use Rattle.program.proofs.Keys.{both, IsWord, single, double, name-key, user-word}
+use Rattle.program.proofs.Keys.{IsWord, single, double, name-key, user-word}
 use Rattle.text.specs.Lines.{lines}
 use Rattle.text.specs.Forms.{Line, Blank, Label, Declared, Acts}
 use Rattle.text.specs.Faults.{heard, said, placeOf, rankOf, numberOf}
@@ -34,9 +35,6 @@ use Rattle.translation.specs.declared.Places.{Places}
 use Rattle.translation.specs.Images.{cellPart, labelPart, variablePart}
 use Rattle.translation.specs.Code.{emitFrom, cellOut, labelOut, variableOut, emittedBy, placesBy, Within}
 use Rattle.translation.proofs.Parts.{TwoNamed, AllTwo}
-
-never : true ≡ false → ⊥
-never e = let q : _≡_ {A = ℕ} 0 1 = cc in omega arith
 
 -- The number of a variable: the paper's; the user's.
 module _ (text : List Line) (k n : ℕ) (e : n ≡ paperVariable (nameOf k)) where
@@ -57,15 +55,15 @@ module _ (place : Name → ℕ) (k : ℕ) where
       pick : (a b : Bool) → (a || b) ≡ true → k ≡ cond (not a && not b) (place (nameOf k)) k
       pick true b h = refl
       pick false true h = refl
-      pick false false h = absurd (never (sym h))
+      pick false false h = absurd (true≢false (sym h))
 
   pub target-placed : (eqb k 0 || eqb k 65535) ≡ false → place (nameOf k) ≡ placed place k
   unfolding noTarget
   target-placed h = pick (eqb k 0) (eqb k 65535) h
     where
       pick : (a b : Bool) → (a || b) ≡ false → place (nameOf k) ≡ cond (not a && not b) (place (nameOf k)) k
-      pick true b h = absurd (never h)
-      pick false true h = absurd (never h)
+      pick true b h = absurd (true≢false h)
+      pick false true h = absurd (true≢false h)
       pick false false h = refl
 
 -- What is written for a line, by its kind, and the places behind it.

@@ -1,13 +1,13 @@
 -- Translating and then visiting gives the places of the text's own run.
 -- Assumes nothing.
 use mathlib.Core.Path.{_≡_, refl, sym, ap, _∙_}
-use mathlib.Core.Bool.{Bool, true, false, _||_}
+use mathlib.Core.Bool.{true, false}
 use mathlib.Core.List.{List}
 use Prim.Native.Nat.{ℕ, _*_, _≤_, _<_}
-use native.Mathlib.Omega.{arith}
 use borrow.Author.Tests.{lt-ltb, le-ltb, ltb-false, ne-eqb}
 use lib.Dec.{ltb}
 use lib.ListN.{length, take}
+use Rattle.numbers.proofs.Truth.{neither}
 use Rattle.events.specs.Events.{events, badScript, badEvents, firstBadEvent, eventCount}
 use Rattle.events.proofs.Scripts.{bad-events}
 use Rattle.running.specs.Courses.{cellActs}
@@ -47,10 +47,6 @@ module _ (script : List ℕ) (budget size : ℕ) where
       by-room l = rw (w, fine, le-ltb 4096 budget l)
 
 -- What holds where nothing is refused.
-neither : (a b : Bool) → (a || b) ≡ false → (a ≡ false) × (b ≡ false)
-neither false b e = (refl, e)
-neither true b e = let z : _≡_ {A = ℕ} 0 1 = cc in absurd (omega arith)
-
 pub record Fit (script : List ℕ) (budget size : ℕ) : Type 0 where
   pub whole-script : badScript script ≡ false
   pub good-events : badEvents script ≡ false

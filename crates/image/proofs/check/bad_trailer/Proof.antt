@@ -1,9 +1,9 @@
 -- `check::bad_trailer` meets its contract: the tests as they stand.
 -- Assumes nothing.
 use borrow.Author.Needs.{needs}
+use mathlib.Core.Bool.{or-assoc}
 use Rattle.program.specs.Variables.{mostCells, mostLabels, mostVariables}
 use Rattle.image.specs.Check.{badTrailer}
-use Rattle.image.proofs.Any.{or-assoc}
 use Rattle.image.proofs.check.bad_trailer.Statement.{statement}
 use Rattle.image.proofs.check.bad_trailer.Tie as tie
 
