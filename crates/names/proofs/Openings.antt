@@ -20,10 +20,9 @@ use Rattle.program.proofs.Keys.{both, eqList-eq, IsWord, single, double}
 use Rattle.text.specs.Forms as Form
 use Rattle.text.specs.Forms.{Line, Blank, Label, Declared, Acts, variableName, Parts, noParts, naming, Slot, Is, New, Written, Start, put, word, takes, fill, form, forms, byForm, statement, reading}
 use Rattle.text.specs.Faults.{longLine, badForm, bigLiteral, reservedName, bigIn, declares, heard}
-use Rattle.text.specs.Code.{saidBy, readingOf}
+use Rattle.reading.specs.Code.{saidBy, readingOf}
 use Rattle.text.proofs.Words.{variable-word}
-use Rattle.text.proofs.Filling.{goOn}
-use Rattle.text.proofs.Rows.{HoldsAt, Filled, done, step, nothing, started, filled}
+use Rattle.text.proofs.Filled.{goOn, HoldsAt, Filled, done, step, nothing, started, filled}
 use Rattle.text.specs.Tokens.{printable, Token, uncommented, joins, ontoFirstToken, tokens}
 use Rattle.text.proofs.Packing.{joins-space}
 use Rattle.names.specs.Code.{spaces, head, kindBy, keyAfter, headBy, headOf, declaring}

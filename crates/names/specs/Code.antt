@@ -16,8 +16,8 @@ use Rattle.program.specs.declared.Operand.{Operand}
 use Rattle.program.specs.declared.Operand.the-variants as O
 use Rattle.text.specs.Forms.{Line}
 use Rattle.text.specs.Faults.{said, firstFault, declaresIt, howMany, makesCell, makesLabel, makesVariable, firstMakes, placeOf, rankOf, unknownVariable, unknownValue}
-use Rattle.text.specs.Code.{saidBy, readingOf, aimsAt, inOperand}
-use Rattle.text.specs.declared.forms.Reading.{Reading}
+use Rattle.reading.specs.Code.{saidBy, readingOf, aimsAt, inOperand}
+use Rattle.reading.specs.declared.Reading.{Reading}
 use Rattle.names.specs.declared.Found.{Found}
 use Rattle.names.specs.declared.Counts.{Counts}
 use Rattle.names.specs.declared.heads.Head.{Head}

@@ -3,8 +3,7 @@ ghost use mathlib.Core.Path.{_≡_};
 ghost use Prim.Native.Nat.{_+_};
 ghost use lib.ListN.{drop};
 ghost use Rattle.names.specs.Code.{spaces, kindBy, headOf};
-use text::forms;
-use text::forms::Reading;
+use reading::Reading;
 
 // The kind that a line has by its first word, if it has no fault; and the characters where its second word would be, as a key.
 pub struct Head {

@@ -7,8 +7,8 @@ ghost use Rattle.names.specs.Code.{FoundAt, DeclaredAs, declaredIn, Surv
 use program::Cell;
 use program::Operand;
 use program::Variable;
+use reading::Reading;
 use text::Fault;
-use text::forms::Reading;
 
 pub mod heads;
 
@@ -71,7 +71,7 @@ fn declared_in(l: &[u8], key: u16) -> u8
     if !(is_declaring(head.kind) & (head.name == key)) {
         return Reading::BLANK;
     }
-    let reading = text::read_line(l);
+    let reading = reading::read_line(l);
     if is_declaring(reading.kind) & (reading.name == key) {
         return reading.kind;
     }
@@ -252,7 +252,7 @@ pub fn survey_lines(s: &[u8]) -> Survey
     while at < s.len() {
         let span = text::line_at(s, at);
         let end = span.end;
-        let reading = text::read_line(&s[at..end]);
+        let reading = reading::read_line(&s[at..end]);
         let before = &s[..at];
         let number = line_fault(s, before, counts, reading);
         if number != NO_FAULT {

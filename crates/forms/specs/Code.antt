@@ -1,0 +1,163 @@
+-- What the code holds of the forms and of the parts that their slots take, in its own shape. No demand reaches this; proofs/ ties it to the definitions of the paper.
+-- Assumes nothing.
+use mathlib.Core.Bool.{Bool, true, false, cond, _&&_, not}
+use mathlib.Core.List.{List, [], _∷_}
+use Prim.Native.Nat.{ℕ, _+_}
+use lib.Dec.{eqb}
+use lib.ListN.{getD}
+use lib.IntN.{ℤ, pos, negℤ}
+use Rattle.program.specs.Names.{Name, twoCharacters, userName}
+use Rattle.program.specs.Code.{nameOf}
+use Rattle.program.specs.Statements.{Literal, Variable, Operator, BitXor, Comparison, AtLeast}
+use Rattle.program.specs.Statements as Said
+use Rattle.text.specs.Forms.{operatorMeant, comparisonMeant, variableName, Parts, parts}
+use Rattle.text.specs.Code.{tokenAt, spelt, isOperator, isComparison, orElse}
+use Rattle.text.specs.declared.tokens.Token.{Token}
+use Rattle.forms.specs.declared.Value.{Value}
+use Rattle.forms.specs.declared.Value.the-variants as Val
+use Rattle.forms.specs.declared.Taken.{Taken}
+use Rattle.forms.specs.declared.Match.{Match}
+
+-- A literal by its sign and its size.
+unfoldable pub meaning : Bool → ℕ → ℤ
+meaning negative size = cond negative (negℤ (pos size)) (pos size)
+
+-- What the code's value is in the paper; a literal alone.
+unfoldable pub valueOf : Value → Said.Value Name
+valueOf (Val.Literal negative size) = Literal (meaning negative size)
+valueOf (Val.Variable k) = Variable (nameOf k)
+
+unfoldable pub startOf : Value → ℤ
+startOf (Val.Literal negative size) = meaning negative size
+startOf (Val.Variable k) = pos 0
+
+-- How many tokens an operand takes, and what it is; none where no operand stands there.
+abbrev pub taken : ℕ → Value → Taken
+taken used value = record { used = used; value = value }
+
+abbrev pub zeroValue : Value
+zeroValue = Val.Literal false 0
+
+-- A literal at the front of two tokens; an operand.
+unfoldable pub literalBy : Token → Token → Taken
+literalBy t u =
+    cond (t .digits) (taken 1 (Val.Literal false (t .value)))
+    (cond ((eqb (t .key) 45 && t .glued) && u .digits) (taken 2 (Val.Literal true (u .value))) (taken 0 zeroValue))
+
+unfoldable pub variableBy : ℕ → Taken
+variableBy k = cond (variableName (nameOf k)) (taken 1 (Val.Variable k)) (taken 0 zeroValue)
+
+unfoldable pub operandBy : Token → Token → Taken
+operandBy t u = cond (eqb (literalBy t u .used) 0) (variableBy (t .key)) (literalBy t u)
+
+-- What the slots of a form took so far: whether each took something, where the next token stands, and the parts.
+abbrev pub match : Bool → ℕ → ℕ → ℕ → Value → ℕ → ℕ → Value → Value → Match
+match ok place name written left operator comparison right start =
+    record {
+      ok = ok;
+      place = place;
+      name = name;
+      written = written;
+      left = left;
+      operator = operator;
+      comparison = comparison;
+      right = right;
+      start = start;
+    }
+
+abbrev pub noMatch : Match
+noMatch = match true 0 0 0 zeroValue 0 0 zeroValue zeroValue
+
+-- So many tokens on.
+abbrev pub onward : Match → Bool → ℕ → Match
+onward m ok used = match (m .ok && ok) (m .place + used) (m .name) (m .written) (m .left) (m .operator) (m .comparison) (m .right) (m .start)
+
+abbrev pub withName : Match → ℕ → Match
+withName m k = match (m .ok) (m .place) k (m .written) (m .left) (m .operator) (m .comparison) (m .right) (m .start)
+
+abbrev pub withWritten : Match → ℕ → Match
+withWritten m k = match (m .ok) (m .place) (m .name) k (m .left) (m .operator) (m .comparison) (m .right) (m .start)
+
+abbrev pub withOperator : Match → ℕ → Match
+withOperator m k = match (m .ok) (m .place) (m .name) (m .written) (m .left) k (m .comparison) (m .right) (m .start)
+
+abbrev pub withComparison : Match → ℕ → Match
+withComparison m k = match (m .ok) (m .place) (m .name) (m .written) (m .left) (m .operator) k (m .right) (m .start)
+
+abbrev pub withLeft : Match → Value → Match
+withLeft m v = match (m .ok) (m .place) (m .name) (m .written) v (m .operator) (m .comparison) (m .right) (m .start)
+
+abbrev pub withRight : Match → Value → Match
+withRight m v = match (m .ok) (m .place) (m .name) (m .written) (m .left) (m .operator) (m .comparison) v (m .start)
+
+abbrev pub withStart : Match → Value → Match
+withStart m v = match (m .ok) (m .place) (m .name) (m .written) (m .left) (m .operator) (m .comparison) (m .right) v
+
+-- What a sign stands for; what is no sign counts as the last.
+unfoldable pub operatorBy : Name → Operator
+operatorBy w = orElse BitXor (operatorMeant w)
+
+unfoldable pub comparisonBy : Name → Comparison
+comparisonBy w = orElse AtLeast (comparisonMeant w)
+
+-- A slot that takes a word, by the word's key.
+unfoldable pub wordBy : Match → ℕ → ℕ → Match
+wordBy m slot k =
+    cond (eqb slot 1) (onward (withName m k) (twoCharacters (nameOf k)) 1)
+    (cond (eqb slot 2) (onward (withName m k) (userName (nameOf k)) 1)
+    (cond (eqb slot 3) (onward (withWritten m k) (variableName (nameOf k)) 1)
+    (cond (eqb slot 7) (onward (withOperator m k) (isOperator (nameOf k)) 1)
+    (cond (eqb slot 8) (onward (withComparison m k) (isComparison (nameOf k)) 1)
+    (onward m (eqb slot k) 1)))))
+
+-- A slot, with the next two tokens; slot 0 takes nothing.
+unfoldable pub slotBy : Match → ℕ → Token → Token → Match
+slotBy m slot t u =
+    cond (eqb slot 0) m
+    (cond (eqb slot 4) (onward (withLeft m (operandBy t u .value)) (not (eqb (operandBy t u .used) 0)) (operandBy t u .used))
+    (cond (eqb slot 5) (onward (withRight m (operandBy t u .value)) (not (eqb (operandBy t u .used) 0)) (operandBy t u .used))
+    (cond (eqb slot 6) (onward (withStart m (literalBy t u .value)) (not (eqb (literalBy t u .used) 0)) (literalBy t u .used))
+    (wordBy m slot (t .key)))))
+
+-- The slots of a form one after the other, until one takes nothing.
+unfoldable pub fillBy : List ℕ → List Token → Match → Match
+fillBy [] ts m = m
+fillBy (s ∷ ss) ts m =
+    let more = fillBy ss ts (slotBy m s (tokenAt ts (m .place)) (tokenAt ts (m .place + 1))) in
+    cond (m .ok) more m
+
+-- The slots of the 21 forms, six to a form: 1 a name to declare, 2 a label, 3 a variable to write, 4 and 5 the operands, 6 a literal,
+-- 7 an operator, 8 a comparison, 0 none; any other is the key of fixed characters.
+unfoldable pub slotTable : List (List ℕ)
+slotTable =
+    (16972 ∷ 1 ∷ 0 ∷ 0 ∷ 0 ∷ 0 ∷ [])
+    ∷ (16726 ∷ 1 ∷ 0 ∷ 0 ∷ 0 ∷ 0 ∷ [])
+    ∷ (16726 ∷ 1 ∷ 61 ∷ 6 ∷ 0 ∷ 0 ∷ [])
+    ∷ (3 ∷ 61 ∷ 4 ∷ 0 ∷ 0 ∷ 0 ∷ [])
+    ∷ (3 ∷ 61 ∷ 4 ∷ 7 ∷ 5 ∷ 0 ∷ [])
+    ∷ (17225 ∷ 3 ∷ 0 ∷ 0 ∷ 0 ∷ 0 ∷ [])
+    ∷ (17220 ∷ 3 ∷ 0 ∷ 0 ∷ 0 ∷ 0 ∷ [])
+    ∷ (21058 ∷ 2 ∷ 0 ∷ 0 ∷ 0 ∷ 0 ∷ [])
+    ∷ (21058 ∷ 2 ∷ 44 ∷ 4 ∷ 8 ∷ 5 ∷ [])
+    ∷ (19523 ∷ 2 ∷ 0 ∷ 0 ∷ 0 ∷ 0 ∷ [])
+    ∷ (19523 ∷ 2 ∷ 44 ∷ 4 ∷ 8 ∷ 5 ∷ [])
+    ∷ (21586 ∷ 0 ∷ 0 ∷ 0 ∷ 0 ∷ 0 ∷ [])
+    ∷ (69 ∷ 0 ∷ 0 ∷ 0 ∷ 0 ∷ 0 ∷ [])
+    ∷ (72 ∷ 0 ∷ 0 ∷ 0 ∷ 0 ∷ 0 ∷ [])
+    ∷ (72 ∷ 4 ∷ 0 ∷ 0 ∷ 0 ∷ 0 ∷ [])
+    ∷ (17743 ∷ 2 ∷ 0 ∷ 0 ∷ 0 ∷ 0 ∷ [])
+    ∷ (17743 ∷ 48 ∷ 0 ∷ 0 ∷ 0 ∷ 0 ∷ [])
+    ∷ (16717 ∷ 4 ∷ 0 ∷ 0 ∷ 0 ∷ 0 ∷ [])
+    ∷ (21069 ∷ 4 ∷ 0 ∷ 0 ∷ 0 ∷ 0 ∷ [])
+    ∷ (19539 ∷ 4 ∷ 0 ∷ 0 ∷ 0 ∷ 0 ∷ [])
+    ∷ (21072 ∷ 4 ∷ 0 ∷ 0 ∷ 0 ∷ 0 ∷ [])
+    ∷ []
+
+unfoldable pub slotsOf : ℕ → List ℕ
+slotsOf form = getD slotTable form []
+
+-- The parts that a match took, as the paper has them.
+abbrev pub partsOf : Match → Parts
+partsOf m =
+    parts (spelt (m .name)) (spelt (m .written)) (valueOf (m .left)) (operatorBy (nameOf (m .operator))) (comparisonBy (nameOf (m .comparison)))
+    (valueOf (m .right)) (startOf (m .start))
