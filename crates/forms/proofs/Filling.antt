@@ -22,7 +22,7 @@ use Rattle.text.specs.Tokens as Paper
 use Rattle.text.specs.Forms as Form
 use Rattle.text.specs.Forms.{digits, decimal, took, literal, variable, operand, variableName, operatorMeant, comparisonMeant, Parts, Slot, Is, New, Target, Written, Left, Right, Start, Operating, Comparing, put, word, sign, takes, fill, naming, writing, onLeft, operating, comparing, onRight, starting}
 use Rattle.text.specs.Code.{shortKey, token, pack, noToken, spelt, known, isOperator, isComparison, orElse, tokenAt}
-use Rattle.forms.specs.Code.{taken, zeroValue, meaning, valueOf, startOf, literalBy, variableBy, operandBy, operatorBy, comparisonBy, onward, withName, withWritten, withOperator, withComparison, withLeft, withRight, withStart, wordBy, slotBy, fillBy, partsOf}
+use Rattle.forms.specs.Code.{taken, zeroValue, meaning, valueOf, startOf, literalBy, variableBy, operandBy, operatorBy, comparisonBy, onward, withName, withWritten, withOperator, withComparison, withLeft, withRight, withStart, wordBy, slotBy, fillBy, partsOf, foundBy, valueBy, fitsBy, keptBy}
 use Rattle.text.specs.declared.tokens.Token.{Token}
 use Rattle.forms.specs.declared.Value.{Value}
 use Rattle.forms.specs.declared.Value.the-variants as Val
@@ -281,7 +281,7 @@ after-onward whole m b used e =
     ap₂ (λ (x : Bool) (ts : List Paper.Token). whether x (partsOf m) ts) (sym (ap (λ (x : Bool). x && b) e)) (drop-drop used (m .place) whole)
 
 slot-fixed : (m : Match) (n : ℕ) (t u : Token) → 8 < n → slotBy m n t u ≡ onward m (eqb n (t .key)) 1
-unfolding slotBy wordBy
+unfolding slotBy wordBy keptBy fitsBy
 slot-fixed m n t u h =
     simp (
       ne-eqb n 0 (λ e. omega arith),
@@ -319,7 +319,7 @@ comparison-law p ts g =
 module _ (whole : List Paper.Token) (m : Match) (e : m .ok ≡ true) (g : Goods (drop (m .place) whole)) where
   slot-law : {n : ℕ} {s : Slot} → Kind n s
       → takes s (drop (m .place) whole) (partsOf m) ≡ after whole (slotBy m n (front (drop (m .place) whole)) (front (drop 1 (drop (m .place) whole))))
-  unfolding takes slotBy wordBy
+  unfolding takes slotBy valueBy foundBy wordBy keptBy fitsBy
   slot-law new =
       let ts = drop (m .place) whole in
       let k = front ts .key in
@@ -366,7 +366,7 @@ module _ (whole : List Paper.Token) (m : Match) (e : m .ok ≡ true) (g : Goods 
 
 -- A slot takes no more tokens than there are, or it takes nothing.
 slot-used : {n : ℕ} {s : Slot} (m : Match) (ts : List Paper.Token) → Kind n s → slotBy m n (front ts) (front (drop 1 ts)) .place ≤ m .place + max 1 (length ts)
-unfolding slotBy wordBy
+unfolding slotBy valueBy foundBy wordBy keptBy fitsBy
 slot-used m ts new = omega arith
 slot-used m ts target = omega arith
 slot-used m ts written = omega arith

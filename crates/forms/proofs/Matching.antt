@@ -1,7 +1,7 @@
 -- What the functions that match tokens with forms need of their values.
 -- Assumes nothing.
 use mathlib.Core.Path.{_≡_, refl, sym, ap, _∙_}
-use mathlib.Core.Bool.{Bool, true, false, cond, _&&_}
+use mathlib.Core.Bool.{Bool, true, false, cond, _&&_, _||_}
 use mathlib.Core.List.{List, [], _∷_}
 use Prim.Native.Nat.{ℕ, zero, suc, _+_, _≤_, _<_}
 use native.Mathlib.Nat.{not-suc-le-zero, le-of-suc-le-suc}
@@ -16,7 +16,7 @@ use Rattle.program.specs.Code.{key, nameOf}
 use Rattle.program.proofs.Keys.{both}
 use Rattle.text.specs.Forms.{variableName}
 use Rattle.text.specs.Code.{tokenAt}
-use Rattle.forms.specs.Code.{literalBy, variableBy, operandBy, slotBy, wordBy, fillBy, slotTable, slotsOf}
+use Rattle.forms.specs.Code.{literalBy, variableBy, operandBy, slotBy, wordBy, fillBy, slotTable, slotsOf, foundBy, valueBy, keptBy}
 use Rattle.text.specs.declared.tokens.Token.{Token}
 use Rattle.forms.specs.declared.Taken.{Taken}
 use Rattle.forms.specs.declared.Match.{Match}
@@ -35,13 +35,17 @@ used-cond : (t : Bool) (x y : Taken) → x .used ≤ 2 → y .used ≤ 2 → con
 used-cond true x y p q = p
 used-cond false x y p q = q
 
-pub literal-used : (t u : Token) → literalBy t u .used ≤ 2
+literal-used : (t u : Token) → literalBy t u .used ≤ 2
 unfolding literalBy
 literal-used t u = used-cond (t .digits) _ _ (omega arith) (used-cond ((eqb (t .key) 45 && t .glued) && u .digits) _ _ (omega arith) (omega arith))
 
-pub operand-used : (t u : Token) → operandBy t u .used ≤ 2
+operand-used : (t u : Token) → operandBy t u .used ≤ 2
 unfolding operandBy variableBy
 operand-used t u = used-cond (eqb (literalBy t u .used) 0) _ _ (used-cond (variableName (nameOf (t .key))) _ _ (omega arith) (omega arith)) (literal-used t u)
+
+pub found-used : (slot : ℕ) (t u : Token) → foundBy slot t u .used ≤ 2
+unfolding foundBy
+found-used slot t u = used-cond (eqb slot 6) _ _ (literal-used t u) (operand-used t u)
 
 cond-true : (t : Bool) (x y : Match) → t ≡ true → cond t x y ≡ x
 cond-true t x y e = rw e
@@ -65,23 +69,18 @@ place-cond : (t : Bool) (x y : Match) (n : ℕ) → x .place ≤ n → y .place 
 place-cond true x y n p q = p
 place-cond false x y n p q = q
 
-word-place : (m : Match) (s k : ℕ) → wordBy m s k .place ≤ m .place + 2
-unfolding wordBy
-word-place m s k =
-    place-cond (eqb s 1) _ _ _ (omega arith)
-    (place-cond (eqb s 2) _ _ _ (omega arith)
-    (place-cond (eqb s 3) _ _ _ (omega arith)
-    (place-cond (eqb s 7) _ _ _ (omega arith)
-    (place-cond (eqb s 8) _ _ _ (omega arith) (omega arith)))))
+kept-place : (m : Match) (s k : ℕ) → keptBy m s k .place ≤ m .place
+unfolding keptBy
+kept-place m s k =
+    place-cond (eqb s 1 || eqb s 2) _ _ _ (omega arith)
+    (place-cond (eqb s 3) _ _ _ (omega arith) (place-cond (eqb s 7) _ _ _ (omega arith) (place-cond (eqb s 8) _ _ _ (omega arith) (omega arith))))
 
 pub slot-place : (m : Match) (s : ℕ) (t u : Token) {n : Match} → n ≡ slotBy m s t u → n .place ≤ m .place + 2
-unfolding slotBy
+unfolding slotBy valueBy wordBy
 slot-place m s t u f =
     rw f
     (place-cond (eqb s 0) _ _ _ (omega arith)
-    (place-cond (eqb s 4) _ _ _ (omega (arith, operand-used t u))
-    (place-cond (eqb s 5) _ _ _ (omega (arith, operand-used t u))
-    (place-cond (eqb s 6) _ _ _ (omega (arith, literal-used t u)) (word-place m s (t .key))))))
+    (place-cond ((eqb s 4 || eqb s 5) || eqb s 6) _ _ _ (omega (arith, found-used s t u)) (omega (arith, kept-place m s (t .key)))))
 
 -- Six slots to a form, and none is left behind them.
 each-at : (P : List ℕ → Bool) (ls : List (List ℕ)) → T (allOf P ls) → (i : ℕ) → i < length ls → T (P (getD ls i []))

@@ -1,6 +1,6 @@
 -- What the code holds of the forms and of the parts that their slots take, in its own shape. No demand reaches this; proofs/ ties it to the definitions of the paper.
 -- Assumes nothing.
-use mathlib.Core.Bool.{Bool, true, false, cond, _&&_, not}
+use mathlib.Core.Bool.{Bool, true, false, cond, _&&_, _||_, not}
 use mathlib.Core.List.{List, [], _∷_}
 use Prim.Native.Nat.{ℕ, _+_}
 use lib.Dec.{eqb}
@@ -100,24 +100,37 @@ operatorBy w = orElse BitXor (operatorMeant w)
 unfoldable pub comparisonBy : Name → Comparison
 comparisonBy w = orElse AtLeast (comparisonMeant w)
 
+-- The word of this key fits a slot.
+unfoldable pub fitsBy : ℕ → ℕ → Bool
+fitsBy slot k =
+    cond (eqb slot 1) (twoCharacters (nameOf k))
+    (cond (eqb slot 2) (userName (nameOf k))
+    (cond (eqb slot 3) (variableName (nameOf k)) (cond (eqb slot 7) (isOperator (nameOf k)) (cond (eqb slot 8) (isComparison (nameOf k)) (eqb slot k)))))
+
+-- The word of this key among the parts.
+unfoldable pub keptBy : Match → ℕ → ℕ → Match
+keptBy m slot k =
+    cond (eqb slot 1 || eqb slot 2) (withName m k)
+    (cond (eqb slot 3) (withWritten m k) (cond (eqb slot 7) (withOperator m k) (cond (eqb slot 8) (withComparison m k) m)))
+
 -- A slot that takes a word, by the word's key.
 unfoldable pub wordBy : Match → ℕ → ℕ → Match
-wordBy m slot k =
-    cond (eqb slot 1) (onward (withName m k) (twoCharacters (nameOf k)) 1)
-    (cond (eqb slot 2) (onward (withName m k) (userName (nameOf k)) 1)
-    (cond (eqb slot 3) (onward (withWritten m k) (variableName (nameOf k)) 1)
-    (cond (eqb slot 7) (onward (withOperator m k) (isOperator (nameOf k)) 1)
-    (cond (eqb slot 8) (onward (withComparison m k) (isComparison (nameOf k)) 1)
-    (onward m (eqb slot k) 1)))))
+wordBy m slot k = onward (keptBy m slot k) (fitsBy slot k) 1
+
+-- A slot that takes a value: what it finds; and the value among the parts.
+unfoldable pub foundBy : ℕ → Token → Token → Taken
+foundBy slot t u = cond (eqb slot 6) (literalBy t u) (operandBy t u)
+
+unfoldable pub valueBy : Match → ℕ → Taken → Match
+valueBy m slot x =
+    match (m .ok && not (eqb (x .used) 0)) (m .place + x .used) (m .name) (m .written)
+    (cond (eqb slot 4) (x .value) (m .left)) (m .operator) (m .comparison) (cond (eqb slot 5) (x .value) (m .right)) (cond (eqb slot 6) (x .value) (m .start))
 
 -- A slot, with the next two tokens; slot 0 takes nothing.
 unfoldable pub slotBy : Match → ℕ → Token → Token → Match
 slotBy m slot t u =
     cond (eqb slot 0) m
-    (cond (eqb slot 4) (onward (withLeft m (operandBy t u .value)) (not (eqb (operandBy t u .used) 0)) (operandBy t u .used))
-    (cond (eqb slot 5) (onward (withRight m (operandBy t u .value)) (not (eqb (operandBy t u .used) 0)) (operandBy t u .used))
-    (cond (eqb slot 6) (onward (withStart m (literalBy t u .value)) (not (eqb (literalBy t u .used) 0)) (literalBy t u .used))
-    (wordBy m slot (t .key)))))
+    (cond ((eqb slot 4 || eqb slot 5) || eqb slot 6) (valueBy m slot (foundBy slot t u)) (wordBy m slot (t .key)))
 
 -- The slots of a form one after the other, until one takes nothing.
 unfoldable pub fillBy : List ℕ → List Token → Match → Match

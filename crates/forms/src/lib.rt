@@ -5,13 +5,14 @@ use program::names;
 use text::tokens::Token;
 use text::tokens::Tokens;
 ghost use mathlib.Core.Path.{_≡_};
+ghost use mathlib.Core.Bool.{cond};
 ghost use Prim.Native.Nat.{_<_};
 ghost use lib.ListN.{getD};
 ghost use Rattle.program.specs.Cells.{operatorNumber, comparisonNumber};
 ghost use Rattle.program.specs.Code.{nameOf};
 ghost use Rattle.text.specs.Forms.{variableName};
 ghost use Rattle.text.specs.Code.{isOperator, isComparison};
-ghost use Rattle.forms.specs.Code.{noMatch, onward, withLeft, withRight, withStart, literalBy, variableBy, operandBy, operatorBy, comparisonBy, wordBy, slotBy, fillBy, slotsOf};
+ghost use Rattle.forms.specs.Code.{noMatch, literalBy, variableBy, operandBy, foundBy, operatorBy, comparisonBy, fitsBy, wordBy, valueBy, slotBy, fillBy, slotsOf};
 
 // How many values a character of a key has.
 const BYTE: u16 = 256;
@@ -235,99 +236,52 @@ impl Match {
         }
     }
 
-    // So many tokens on.
-    fn onward(mut self, ok: bool, used: usize) -> Match
-        requires { ⌜ (self .place < 64) × (used < 64) ⌝ }
-        ensures { λ r. ⌜ r ≡ onward self ok used ⌝ }
-    {
-        self.ok = self.ok & ok;
-        self.place = self.place + used;
-        self
-    }
-
-    fn with_left(self, x: Taken) -> Match
-        ensures { λ r. ⌜ r ≡ withLeft self (x .value) ⌝ }
-    {
-        let value = x.value;
-        let right = self.right;
-        let start = self.start;
-        Match {
-            ok: self.ok,
-            place: self.place,
-            name: self.name,
-            written: self.written,
-            left: value,
-            operator: self.operator,
-            comparison: self.comparison,
-            right,
-            start,
-        }
-    }
-
-    fn with_right(self, x: Taken) -> Match
-        ensures { λ r. ⌜ r ≡ withRight self (x .value) ⌝ }
-    {
-        let value = x.value;
-        let left = self.left;
-        let start = self.start;
-        Match {
-            ok: self.ok,
-            place: self.place,
-            name: self.name,
-            written: self.written,
-            left,
-            operator: self.operator,
-            comparison: self.comparison,
-            right: value,
-            start,
-        }
-    }
-
-    fn with_start(self, x: Taken) -> Match
-        ensures { λ r. ⌜ r ≡ withStart self (x .value) ⌝ }
-    {
-        let value = x.value;
-        let left = self.left;
-        let right = self.right;
-        Match {
-            ok: self.ok,
-            place: self.place,
-            name: self.name,
-            written: self.written,
-            left,
-            operator: self.operator,
-            comparison: self.comparison,
-            right,
-            start: value,
-        }
-    }
-
     // A slot that takes a word, by the word's key.
     fn word(mut self, slot: u16, key: u16) -> Match
         requires { ⌜ self .place < 64 ⌝ }
         ensures { λ r. ⌜ r ≡ wordBy self slot key ⌝ }
     {
-        if slot == NEW {
+        self.ok = self.ok & fits(slot, key);
+        self.place = self.place + 1;
+        if (slot == NEW) | (slot == TARGET) {
             self.name = key;
-            return self.onward(names::has_two_characters(key), 1);
-        }
-        if slot == TARGET {
-            self.name = key;
-            return self.onward(names::is_user_name(key), 1);
+            return self;
         }
         if slot == WRITTEN {
             self.written = key;
-            return self.onward(is_variable(key), 1);
+            return self;
         }
         if slot == OPERATOR {
             self.operator = key;
-            return self.onward(is_operator(key), 1);
+            return self;
         }
         if slot == COMPARISON {
             self.comparison = key;
-            return self.onward(is_comparison(key), 1);
+            return self;
         }
-        self.onward(slot == key, 1)
+        self
+    }
+
+    // A slot that takes a value.
+    fn value(self, slot: u16, x: Taken) -> Match
+        requires { ⌜ (self .place < 64) × (x .used < 64) ⌝ }
+        ensures { λ r. ⌜ r ≡ valueBy self slot x ⌝ }
+    {
+        let value = x.value;
+        let left = self.left;
+        let right = self.right;
+        let start = self.start;
+        Match {
+            ok: self.ok & (x.used != 0),
+            place: self.place + x.used,
+            name: self.name,
+            written: self.written,
+            left: chosen(slot == LEFT, value, left),
+            operator: self.operator,
+            comparison: self.comparison,
+            right: chosen(slot == RIGHT, value, right),
+            start: chosen(slot == START, value, start),
+        }
     }
 
     // A slot, with the next two tokens.
@@ -338,20 +292,52 @@ impl Match {
         if slot == NOTHING {
             return self;
         }
-        if slot == LEFT {
-            let x = operand(t, u);
-            return self.with_left(x).onward(x.used != 0, x.used);
-        }
-        if slot == RIGHT {
-            let x = operand(t, u);
-            return self.with_right(x).onward(x.used != 0, x.used);
-        }
-        if slot == START {
-            let x = literal(t, u);
-            return self.with_start(x).onward(x.used != 0, x.used);
+        if (slot == LEFT) | (slot == RIGHT) | (slot == START) {
+            return self.value(slot, found(slot, t, u));
         }
         self.word(slot, t.key)
     }
+}
+
+// The word of this key fits the slot.
+fn fits(slot: u16, key: u16) -> bool
+    ensures { λ r. ⌜ r ≡ fitsBy slot key ⌝ }
+{
+    if slot == NEW {
+        return names::has_two_characters(key);
+    }
+    if slot == TARGET {
+        return names::is_user_name(key);
+    }
+    if slot == WRITTEN {
+        return is_variable(key);
+    }
+    if slot == OPERATOR {
+        return is_operator(key);
+    }
+    if slot == COMPARISON {
+        return is_comparison(key);
+    }
+    slot == key
+}
+
+// What a slot for a value finds.
+fn found(slot: u16, t: Token, u: Token) -> Taken
+    ensures { λ r. ⌜ r ≡ foundBy slot t u ⌝ }
+{
+    if slot == START {
+        return literal(t, u);
+    }
+    operand(t, u)
+}
+
+fn chosen(first: bool, x: Value, y: Value) -> Value
+    ensures { λ r. ⌜ r ≡ cond first x y ⌝ }
+{
+    if first {
+        return x;
+    }
+    y
 }
 
 // The slot of a form at a place.

@@ -1,10 +1,11 @@
 -- `Match::slot` meets its contract.
 -- Assumes nothing.
 use borrow.Author.Needs.{needs}
+use borrow.Author.Tests.{ne-eqb}
 use native.Mathlib.Omega.{arith}
 use Rattle.numbers.proofs.Kit.{tests}
 use Rattle.forms.specs.Code.{slotBy}
-use Rattle.forms.proofs.Matching.{operand-used, literal-used}
+use Rattle.forms.proofs.Matching.{found-used}
 use Rattle.forms.proofs.Match.slot.Statement.{statement}
 use Rattle.forms.proofs.Match.slot.Tie as tie
 
@@ -12,74 +13,26 @@ returns : tie.Need-returns
 unfolding slotBy
 returns c = search tests
 
-operand-requires : tie.Need-operand-requires
-operand-requires c κs = search needs
+found-requires : tie.Need-found-requires
+found-requires c κs = search needs
 
-with-left-requires : tie.Need-with-left-requires
-with-left-requires c κs = search needs
-
-onward-requires : tie.Need-onward-requires
-onward-requires c κs =
-    let s = c .before .before .before .before .before in
-    (rw (c .before .with-left .ensures) (s .pre), rw (c .before .before .operand .ensures) (omega (arith, operand-used (s .args .t) (s .args .u))))
+value-requires : tie.Need-value-requires
+value-requires c κs =
+    let a = c .before .before .before in
+    (a .pre, rw (c .found .ensures) (omega (arith, found-used (a .args .slot) (a .args .t) (a .args .u))))
 
 returns-2 : tie.Need-returns-2
 unfolding slotBy
-returns-2 c = rw (c .onward .ensures, c .before .before .with-left .ensures, c .before .before .before .operand .ensures) (search tests)
-
-operand-requires-2 : tie.Need-operand-requires-2
-operand-requires-2 c κs = search needs
-
-with-right-requires : tie.Need-with-right-requires
-with-right-requires c κs = search needs
-
-onward-requires-2 : tie.Need-onward-requires-2
-onward-requires-2 c κs =
-    let s = c .before .before .before .before .before .before in
-    (rw (c .before .with-right .ensures) (s .pre), rw (c .before .before .operand2 .ensures) (omega (arith, operand-used (s .args .t) (s .args .u))))
-
-returns-3 : tie.Need-returns-3
-unfolding slotBy
-returns-3 c = rw (c .onward2 .ensures, c .before .before .with-right .ensures, c .before .before .before .operand2 .ensures) (search tests)
-
-literal-requires : tie.Need-literal-requires
-literal-requires c κs = search needs
-
-with-start-requires : tie.Need-with-start-requires
-with-start-requires c κs = search needs
-
-onward-requires-3 : tie.Need-onward-requires-3
-onward-requires-3 c κs =
-    let s = c .before .before .before .before .before .before .before in
-    (rw (c .before .with-start .ensures) (s .pre), rw (c .before .before .literal .ensures) (omega (arith, literal-used (s .args .t) (s .args .u))))
-
-returns-4 : tie.Need-returns-4
-unfolding slotBy
-returns-4 c = rw (c .onward3 .ensures, c .before .before .with-start .ensures, c .before .before .before .literal .ensures) (search tests)
+returns-2 c =
+    let l = c .before .before in
+    rw (c .value .ensures, c .before .found .ensures, ne-eqb _ _ (l .before .if1 .left), l .if2 .taken)
 
 word-requires : tie.Need-word-requires
 word-requires c κs = search needs
 
-returns-5 : tie.Need-returns-5
+returns-3 : tie.Need-returns-3
 unfolding slotBy
-returns-5 c = rw (c .word .ensures) (search tests)
+returns-3 c = rw (c .word .ensures, ne-eqb _ _ (c .before .before .if1 .left), c .before .if2 .left)
 
 pub slot-spec : {M : Type 1} → statement M
-slot-spec =
-    tie.close
-    (tie.spec
-    returns
-    operand-requires
-    with-left-requires
-    onward-requires
-    returns-2
-    operand-requires-2
-    with-right-requires
-    onward-requires-2
-    returns-3
-    literal-requires
-    with-start-requires
-    onward-requires-3
-    returns-4
-    word-requires
-    returns-5)
+slot-spec = tie.close (tie.spec returns found-requires value-requires returns-2 word-requires returns-3)
