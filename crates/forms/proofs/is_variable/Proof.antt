@@ -13,7 +13,7 @@ is-user-name-requires c κs = search needs
 
 returns : tie.Need-returns
 unfolding variableName
-returns c = cc
+returns c = rw (c .before .number-of .ensures, c .is-user-name .ensures)
 
 pub is-variable-spec : {M : Type 1} → statement M
 is-variable-spec = tie.close (tie.spec number-of-requires is-user-name-requires returns)
