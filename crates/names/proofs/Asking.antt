@@ -25,7 +25,8 @@ use Rattle.text.proofs.Words.{variable-word}
 use Rattle.text.proofs.Filled.{Known, Named}
 use Rattle.reading.proofs.Heard.{Fine, heard-fine, line-fault, repeated-asked, too-many-asked, undeclared-asked, read-only-asked}
 use Rattle.names.specs.declared.Counts.{Counts}
-use Rattle.names.specs.Code.{DeclaredAs, KeyOperand, Keyed, declaring, unknownTarget, unknownWritten, unknownOperand, unknownCell, readOnlyKey, repeatedKey, tooManyBy, countsOf, faultBy}
+use Rattle.reading.specs.Code.{declaring}
+use Rattle.names.specs.Code.{DeclaredAs, KeyOperand, Keyed, unknownTarget, unknownWritten, unknownOperand, unknownCell, readOnlyKey, repeatedKey, tooManyBy, countsOf, faultBy}
 
 -- A variable: of the paper's; sought.
 pub paper-known : (text : List Line) (k n : ℕ) → n ≡ paperVariable (nameOf k) → (n ≡ 0 → ⊥) → false ≡ unknownVariable text (nameOf k)

@@ -22,9 +22,10 @@ use Rattle.text.specs.declared.Span.{Span}
 use Rattle.reading.specs.declared.Reading.{Reading}
 use Rattle.reading.proofs.Heard.{Fine, heard-fine, cell-kind, label-kind, variable-kind, eqb-turn, reading-kind, reading-name, line-fault}
 use Rattle.names.specs.declared.Found.{Found}
-use Rattle.names.specs.declared.heads.Head.{Head}
-use Rattle.names.specs.Code.{found, declaring, plus, headOf, declaredIn, kindFrom, foundFrom, DeclaredAs, FoundAt}
-use Rattle.names.proofs.Openings.{declaring-head, fine-head}
+use Rattle.reading.specs.declared.heads.Head.{Head}
+use Rattle.reading.specs.Code.{declaring, headOf}
+use Rattle.names.specs.Code.{found, plus, declaredIn, kindFrom, foundFrom, DeclaredAs, FoundAt}
+use Rattle.reading.proofs.Openings.{declaring-head, fine-head}
 use Rattle.names.proofs.Lines.{said-next, said-end, few-said, few-places, few-ranks}
 
 never : true ≡ false → ⊥

@@ -3,14 +3,14 @@ ghost use mathlib.Core.Path.{_≡_};
 ghost use Prim.Native.Nat.{_<_};
 ghost use Rattle.program.specs.Code.{nameOf};
 ghost use Rattle.text.specs.Faults.{said, unknownVariable, firstFault};
-ghost use Rattle.names.specs.Code.{FoundAt, DeclaredAs, declaredIn, Surveyed, Keyed, KeyOperand, Below, plus, declaring, unknownTarget, unknownWritten, unknownOperand, unknownCell, readOnlyKey, repeatedKey, tooManyBy, counted, faultBy};
+ghost use Rattle.reading.specs.Code.{declaring};
+ghost use Rattle.names.specs.Code.{FoundAt, DeclaredAs, declaredIn, Surveyed, Keyed, KeyOperand, Below, plus, unknownTarget, unknownWritten, unknownOperand, unknownCell, readOnlyKey, repeatedKey, tooManyBy, counted, faultBy};
 use program::Cell;
 use program::Operand;
 use program::Variable;
 use reading::Reading;
+use reading::heads;
 use text::Fault;
-
-pub mod heads;
 
 // How many cells and variables the lines make before the first one that declares a name.
 pub struct Found {

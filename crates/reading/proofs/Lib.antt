@@ -3,3 +3,4 @@ pub mod Parts
 pub mod Rows
 pub mod Readings
 pub mod Heard
+pub mod Openings

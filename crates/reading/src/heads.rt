@@ -2,8 +2,8 @@
 ghost use mathlib.Core.Path.{_≡_};
 ghost use Prim.Native.Nat.{_+_};
 ghost use lib.ListN.{drop};
-ghost use Rattle.names.specs.Code.{spaces, kindBy, headOf};
-use reading::Reading;
+ghost use Rattle.reading.specs.Code.{spaces, kindBy, headOf};
+use crate::Reading;
 
 // The kind that a line has by its first word, if it has no fault; and the characters where its second word would be, as a key.
 pub struct Head {

@@ -6,10 +6,10 @@ use lib.ListN.{length, drop}
 use mathlib.Core.Path.{_≡_, refl, sym, _∙_}
 use native.Mathlib.Numerals.{add-one}
 use native.Mathlib.Omega.{arith}
-use Rattle.names.specs.Code.{spaces}
-use Rattle.names.proofs.Openings.{space-more, space-stop, space-end}
-use Rattle.names.proofs.heads.past_spaces.Statement.{statement}
-use Rattle.names.proofs.heads.past_spaces.Tie as tie
+use Rattle.reading.specs.Code.{spaces}
+use Rattle.reading.proofs.Openings.{space-more, space-stop, space-end}
+use Rattle.reading.proofs.heads.past_spaces.Statement.{statement}
+use Rattle.reading.proofs.heads.past_spaces.Tie as tie
 
 abbrev Inv-loop : tie.InvT-loop
 Inv-loop l at i₀ i = i + spaces (drop i l) ≡ at + spaces (drop at l)

@@ -1,9 +1,9 @@
 -- `kind_by` meets its contract.
 -- Assumes nothing.
 use Rattle.numbers.proofs.Kit.{tests}
-use Rattle.names.specs.Code.{kindBy}
-use Rattle.names.proofs.heads.kind_by.Statement.{statement}
-use Rattle.names.proofs.heads.kind_by.Tie as tie
+use Rattle.reading.specs.Code.{kindBy}
+use Rattle.reading.proofs.heads.kind_by.Statement.{statement}
+use Rattle.reading.proofs.heads.kind_by.Tie as tie
 
 returns : tie.Need-returns
 unfolding kindBy

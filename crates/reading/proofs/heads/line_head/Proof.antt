@@ -2,9 +2,9 @@
 -- Assumes nothing.
 use borrow.Author.Needs.{needs}
 use denote.Ref.{now}
-use Rattle.names.proofs.Openings.{head-blank, head-whole}
-use Rattle.names.proofs.heads.line_head.Statement.{statement}
-use Rattle.names.proofs.heads.line_head.Tie as tie
+use Rattle.reading.proofs.Openings.{head-blank, head-whole}
+use Rattle.reading.proofs.heads.line_head.Statement.{statement}
+use Rattle.reading.proofs.heads.line_head.Tie as tie
 
 past-spaces-requires : tie.Need-past-spaces-requires
 past-spaces-requires c κs = search needs
