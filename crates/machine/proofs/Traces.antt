@@ -10,7 +10,7 @@ use borrow.Author.Tests.{le-leb, lt-leb, leb-true, leb-false, ne-eqb}
 use lib.Dec.{T, eqb, leb, leb→le}
 use lib.ListN.{length}
 use Rattle.numbers.specs.Tests.{allOf}
-use Rattle.program.proofs.Keys.{both}
+use Rattle.numbers.proofs.Truth.{both}
 use Rattle.events.specs.declared.Event.{Event}
 use Rattle.machine.specs.Run.{Bench, Step, Trace, ends, before, ReachedOf, reachBy, traceOn, CourseOf, finally, courseOf}
 

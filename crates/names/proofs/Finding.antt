@@ -18,14 +18,16 @@ use Rattle.program.proofs.Keys.{name-key, eq-name, user-word}
 use Rattle.text.specs.Forms.{Line, Blank, Label, Declared, Acts}
 use Rattle.text.specs.Lines.{lines}
 use Rattle.text.specs.Faults.{heard, said, declares, declaresIt, makesLabel, makesVariable, firstMakes, placeOf, rankOf, faults, firstFrom, faultsFrom, textFaults, firstFault}
-use Rattle.text.specs.Code.{saidBy, readingOf, LineAt}
+use Rattle.text.specs.Code.{LineAt}
+use Rattle.reading.specs.Code.{saidBy, readingOf}
 use Rattle.text.specs.declared.Span.{Span}
-use Rattle.text.specs.declared.forms.Reading.{Reading}
-use Rattle.text.proofs.Heard.{Fine, heard-fine, cell-kind, label-kind, variable-kind, reading-kind, reading-name, line-fault}
+use Rattle.reading.specs.declared.Reading.{Reading}
+use Rattle.reading.proofs.Heard.{Fine, heard-fine, cell-kind, label-kind, variable-kind, reading-kind, reading-name, line-fault}
 use Rattle.names.specs.declared.Found.{Found}
-use Rattle.names.specs.declared.heads.Head.{Head}
-use Rattle.names.specs.Code.{found, declaring, plus, headOf, declaredIn, kindFrom, foundFrom, DeclaredAs, FoundAt}
-use Rattle.names.proofs.Openings.{declaring-head, fine-head}
+use Rattle.reading.specs.declared.heads.Head.{Head}
+use Rattle.reading.specs.Code.{declaring, headOf}
+use Rattle.names.specs.Code.{found, plus, declaredIn, kindFrom, foundFrom, DeclaredAs, FoundAt}
+use Rattle.reading.proofs.Openings.{declaring-head, fine-head}
 use Rattle.names.proofs.Lines.{said-next, said-end, few-said, few-places, few-ranks}
 
 -- What is known of each line.

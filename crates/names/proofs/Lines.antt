@@ -13,10 +13,11 @@ use Rattle.text.specs.Lines as Paper
 use Rattle.text.specs.Lines.{lines}
 use Rattle.text.specs.Forms.{Line}
 use Rattle.text.specs.Faults.{heard, said, declaresIt, makesCell, makesLabel, makesVariable, howMany, placeOf, rankOf}
-use Rattle.text.specs.Code.{saidBy, Starts, LineAt}
+use Rattle.text.specs.Code.{Starts, LineAt}
+use Rattle.reading.specs.Code.{saidBy}
 use Rattle.text.specs.declared.Span.{Span}
 use Rattle.text.proofs.Lines.{lines-next, lines-end}
-use Rattle.text.proofs.Heard.{cell-kind, label-kind, variable-kind}
+use Rattle.reading.proofs.Heard.{cell-kind, label-kind, variable-kind}
 use Rattle.names.specs.Code.{plus, counted, countsOf}
 
 -- What is said from a place on: by the line there and those behind it; nothing at the end.

@@ -10,11 +10,12 @@ use lib.ListN.{length, take, drop}
 use Rattle.numbers.specs.Tests.{lowest}
 use Rattle.text.specs.Lines.{lines}
 use Rattle.text.specs.Faults.{heard, said, howMany, makesCell, makesLabel, makesVariable, faults, fault, firstFrom, faultsFrom, textFaults, firstFault}
-use Rattle.text.specs.Code.{Starts, LineAt, readingOf}
+use Rattle.text.specs.Code.{Starts, LineAt}
+use Rattle.reading.specs.Code.{readingOf}
 use Rattle.text.specs.declared.Span.{Span}
-use Rattle.text.specs.declared.forms.Reading.{Reading}
+use Rattle.reading.specs.declared.Reading.{Reading}
 use Rattle.text.proofs.Lines.{starts-first, lines-end}
-use Rattle.text.proofs.Heard.{reading-kind}
+use Rattle.reading.proofs.Heard.{reading-kind}
 use Rattle.names.specs.declared.Counts.{Counts}
 use Rattle.names.specs.Code.{Below, Surveyed, counted, countsOf, faultBy}
 use Rattle.names.proofs.Lines.{said-before, said-none, said-all, few-said, count-most, counted-more}

@@ -5,7 +5,7 @@ use mathlib.Core.Bool.{Bool, cond, _&&_, _||_, not}
 use mathlib.Core.List.{List, [], _∷_}
 use Prim.Native.Nat.{ℕ, suc, _≤_, _<_}
 use lib.Dec.{eqb, leb}
-use lib.ListN.{length, take, drop}
+use lib.ListN.{length}
 use Rattle.numbers.specs.Bytes.{number}
 use Rattle.numbers.specs.Tests.{anyOf, lowest}
 use Rattle.program.specs.Names.{paperVariable}
@@ -16,45 +16,18 @@ use Rattle.program.specs.declared.Operand.{Operand}
 use Rattle.program.specs.declared.Operand.the-variants as O
 use Rattle.text.specs.Forms.{Line}
 use Rattle.text.specs.Faults.{said, firstFault, declaresIt, howMany, makesCell, makesLabel, makesVariable, firstMakes, placeOf, rankOf, unknownVariable, unknownValue}
-use Rattle.text.specs.Code.{saidBy, readingOf, aimsAt, inOperand}
-use Rattle.text.specs.declared.forms.Reading.{Reading}
+use Rattle.reading.specs.Code.{saidBy, readingOf, aimsAt, inOperand, declaring}
+use Rattle.reading.specs.declared.Reading.{Reading}
 use Rattle.names.specs.declared.Found.{Found}
 use Rattle.names.specs.declared.Counts.{Counts}
-use Rattle.names.specs.declared.heads.Head.{Head}
 use Rattle.names.specs.declared.Survey.{Survey}
 
 abbrev pub found : ℕ → ℕ → Found
 found cells variables = record { cells = cells; variables = variables }
 
--- A line of this kind declares a name.
-unfoldable pub declaring : ℕ → Bool
-declaring kind = eqb kind 1 || eqb kind 2
-
 -- One more where the test holds.
 unfoldable pub plus : Bool → ℕ → ℕ
 plus b n = cond b (suc n) n
-
--- How many spaces a line starts with.
-unfoldable pub spaces : List ℕ → ℕ
-spaces [] = 0
-spaces (c ∷ cs) = let more = suc (spaces cs) in cond (eqb c 32) more 0
-
--- What a line seems to say by its first two words: a kind, by the first character and the key of the first two; and a name's key.
-abbrev pub head : ℕ → ℕ → Head
-head kind name = record { kind = kind; name = name }
-
-unfoldable pub kindBy : ℕ → ℕ → ℕ
-kindBy c word = cond (eqb c 39) 0 (cond (eqb word 16972) 1 (cond (eqb word 16726) 2 3))
-
-unfoldable pub keyAfter : List ℕ → ℕ
-keyAfter l = number (take 2 (drop (spaces l) l))
-
-unfoldable pub headBy : List ℕ → Head
-headBy [] = head 0 0
-headBy (c ∷ cs) = head (kindBy c (number (take 2 (c ∷ cs)))) (keyAfter (drop 1 cs))
-
-unfoldable pub headOf : List ℕ → Head
-headOf l = headBy (drop (spaces l) l)
 
 -- The kind of a line that declares the name with this key, 0 for any other; and of the first of these lines that does.
 unfoldable pub declaredIn : List ℕ → ℕ → ℕ

@@ -3,14 +3,14 @@ ghost use mathlib.Core.Path.{_≡_};
 ghost use Prim.Native.Nat.{_<_};
 ghost use Rattle.program.specs.Code.{nameOf};
 ghost use Rattle.text.specs.Faults.{said, unknownVariable, firstFault};
-ghost use Rattle.names.specs.Code.{FoundAt, DeclaredAs, declaredIn, Surveyed, Keyed, KeyOperand, Below, plus, declaring, unknownTarget, unknownWritten, unknownOperand, unknownCell, readOnlyKey, repeatedKey, tooManyBy, counted, faultBy};
+ghost use Rattle.reading.specs.Code.{declaring};
+ghost use Rattle.names.specs.Code.{FoundAt, DeclaredAs, declaredIn, Surveyed, Keyed, KeyOperand, Below, plus, unknownTarget, unknownWritten, unknownOperand, unknownCell, readOnlyKey, repeatedKey, tooManyBy, counted, faultBy};
 use program::Cell;
 use program::Operand;
 use program::Variable;
+use reading::Reading;
+use reading::heads;
 use text::Fault;
-use text::forms::Reading;
-
-pub mod heads;
 
 // How many cells and variables the lines make before the first one that declares a name.
 pub struct Found {
@@ -71,7 +71,7 @@ fn declared_in(l: &[u8], key: u16) -> u8
     if !(is_declaring(head.kind) & (head.name == key)) {
         return Reading::BLANK;
     }
-    let reading = text::read_line(l);
+    let reading = reading::read_line(l);
     if is_declaring(reading.kind) & (reading.name == key) {
         return reading.kind;
     }
@@ -252,7 +252,7 @@ pub fn survey_lines(s: &[u8]) -> Survey
     while at < s.len() {
         let span = text::line_at(s, at);
         let end = span.end;
-        let reading = text::read_line(&s[at..end]);
+        let reading = reading::read_line(&s[at..end]);
         let before = &s[..at];
         let number = line_fault(s, before, counts, reading);
         if number != NO_FAULT {

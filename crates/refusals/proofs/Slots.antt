@@ -18,7 +18,7 @@ use Rattle.text.specs.Tokens.{Token, tokens, uncommented, printable}
 use Rattle.text.specs.Forms.{Line, digits, decimal, Taken, took, put, word, sign, literal, variableName, variable, operand, operatorMeant, comparisonMeant, Slot, Is, New, Target, Written, Left, Right, Start, Operating, Comparing, Parts, noParts, naming, writing, onLeft, operating, comparing, onRight, starting, takes, fill, Form, byForm, statement, reading}
 use Rattle.text.specs.Faults.{badForm}
 use Rattle.text.specs.Code.{known, isOperator, isComparison}
-use Rattle.text.proofs.Rows.{Each}
+use Rattle.text.proofs.Filled.{Each}
 
 -- 1 to 10 digits.
 abbrev pub figures : Name → Bool

@@ -1,11 +1,6 @@
 pub mod Lines
 pub mod Scanning
 pub mod Packing
-pub mod Matching
 pub mod Words
 pub mod Signs
-pub mod Filling
-pub mod Rows
-pub mod Packed
-pub mod Readings
-pub mod Heard
+pub mod Filled

@@ -2,7 +2,7 @@
 -- Assumes nothing.
 use mathlib.Core.Path.{_≡_, refl, sym, subst, _∙_}
 use mathlib.Core.Bool.{Bool, true, false, cond, not}
-use mathlib.Core.List.{[]}
+use mathlib.Core.List.{List, [], _∷_, map}
 use mathlib.Core.Option.{Option, none, some}
 use Prim.Native.Nat.{ℕ, suc}
 use borrow.Author.Tests.{eq-eqb, ne-eqb}
@@ -14,8 +14,15 @@ use Rattle.program.specs.Cells.{operatorNumber, comparisonNumber}
 use Rattle.program.specs.Statements.{Plus, Minus, Times, Divided, BitAnd, BitOr, BitXor, Equal, Unequal, Less, AtMost, Greater, AtLeast}
 use Rattle.program.proofs.Keys.{IsWord, isWord}
 use Rattle.text.specs.Forms.{operatorSign, comparisonSign, meant, operatorMeant, comparisonMeant}
-use Rattle.text.specs.Code.{known, isOperator, isComparison, orElse, operatorSigns, comparisonSigns}
+use Rattle.text.specs.Code.{known, isOperator, isComparison, orElse}
 use Rattle.text.proofs.Words.{listed-word}
+
+-- The signs in the order of their numbers.
+unfoldable pub operatorSigns : List Name
+operatorSigns = map operatorSign (Plus ∷ Minus ∷ Times ∷ Divided ∷ BitAnd ∷ BitOr ∷ BitXor ∷ [])
+
+unfoldable pub comparisonSigns : List Name
+comparisonSigns = map comparisonSign (Equal ∷ Unequal ∷ Less ∷ AtMost ∷ Greater ∷ AtLeast ∷ [])
 
 -- What a place in a table of signs must be: 0 for no sign, and else the number of what is meant, with the last for none.
 pub record Placed {A : Type 0} (number : A → ℕ) (last : A) (place : ℕ) (o : Option A) : Type 0 where
@@ -71,11 +78,11 @@ comparison-placed w =
 
 -- A sign is a word.
 operators-words : T (allOf isWord operatorSigns)
-unfolding allOf operatorSigns ascii
+unfolding allOf operatorSigns operatorSign ascii
 operators-words = tt
 
 comparisons-words : T (allOf isWord comparisonSigns)
-unfolding allOf comparisonSigns ascii
+unfolding allOf comparisonSigns comparisonSign ascii
 comparisons-words = tt
 
 pub operator-word : (w : Name) → T (isOperator w) → IsWord w

@@ -1,11 +1,10 @@
-// A program text: its lines, and the first fault in it.
-use forms::Reading;
+// A program text: its lines; and where the first fault in it is.
 ghost use mathlib.Core.Path.{_≡_};
 ghost use Prim.Native.Nat.{_+_, _≤_, _<_};
 ghost use lib.ListN.{length, drop, getD};
-ghost use Rattle.text.specs.Code.{atEnd, lineLength, endingLength, LineAt, readingOf};
+ghost use Rattle.text.specs.Faults.{longLine};
+ghost use Rattle.text.specs.Code.{atEnd, lineLength, endingLength, LineAt};
 
-pub mod forms;
 pub mod tokens;
 
 // The first faulty line, from 1, with its lowest fault number; both 0 where no line has a fault.
@@ -84,17 +83,8 @@ impl Span {
     pub const LONGEST: usize = 64;
 }
 
-// What a line says, and its lowest fault from 2 to 5.
-pub fn read_line(l: &[u8]) -> Reading
-    ensures { λ r. ⌜ r ≡ readingOf (now (l .entry)) ⌝ }
+pub fn is_long(l: &[u8]) -> bool
+    ensures { λ r. ⌜ r ≡ longLine (now (l .entry)) ⌝ }
 {
-    if Span::LONGEST < l.len() {
-        return Reading::faulty(Reading::LONG_LINE);
-    }
-    if !tokens::is_printable(l) {
-        return Reading::faulty(Reading::BAD_FORM);
-    }
-    let n = tokens::code_length(l);
-    let code = &l[..n];
-    forms::statement(tokens::read_tokens(code))
+    Span::LONGEST < l.len()
 }

@@ -13,11 +13,12 @@ use lib.Seq.{take-at, getD-at}
 use Rattle.text.specs.Lines.{lines}
 use Rattle.text.specs.Forms.{Line, Blank, Label, Declared, Acts}
 use Rattle.text.specs.Faults.{heard, said, howMany, makesCell}
-use Rattle.text.specs.Code.{Starts, LineAt, readingOf}
+use Rattle.text.specs.Code.{Starts, LineAt}
+use Rattle.reading.specs.Code.{readingOf}
 use Rattle.text.specs.declared.Span.{Span}
-use Rattle.text.specs.declared.forms.Reading.{Reading}
+use Rattle.reading.specs.declared.Reading.{Reading}
 use Rattle.text.proofs.Lines.{starts-first, lines-split, lines-next}
-use Rattle.text.proofs.Heard.{reading-kind, cell-kind}
+use Rattle.reading.proofs.Heard.{reading-kind, cell-kind}
 use Rattle.names.proofs.Lines.{said-next, said-end}
 use Rattle.translation.specs.Places.{lineAt, lineFrom, lineOf, lineBytes}
 use Rattle.translation.specs.Code.{fewer, PlacedAt}

@@ -23,10 +23,11 @@ use Rattle.program.proofs.Keys.{IsWord, single, double, name-key, user-word}
 use Rattle.text.specs.Lines.{lines}
 use Rattle.text.specs.Forms.{Line, Blank, Label, Declared, Acts}
 use Rattle.text.specs.Faults.{heard, said, placeOf, rankOf, numberOf}
-use Rattle.text.specs.Code.{saidBy, readingOf, placed, resolved, LineAt}
+use Rattle.text.specs.Code.{LineAt}
+use Rattle.reading.specs.Code.{saidBy, readingOf, placed, resolved}
 use Rattle.text.specs.declared.Span.{Span}
-use Rattle.text.specs.declared.forms.Reading.{Reading}
-use Rattle.text.proofs.Heard.{Fine, heard-fine, cell-resolved}
+use Rattle.reading.specs.declared.Reading.{Reading}
+use Rattle.reading.proofs.Heard.{Fine, heard-fine, cell-resolved}
 use Rattle.names.proofs.Lines.{said-next, said-end}
 use Rattle.image.specs.Layout.{cellBytes}
 use Rattle.image.proofs.Back.{label-bytes, variable-bytes}

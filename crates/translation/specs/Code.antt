@@ -13,8 +13,8 @@ use Rattle.program.specs.Code.{nameOf}
 use Rattle.text.specs.Lines.{lines}
 use Rattle.text.specs.Forms.{Line}
 use Rattle.text.specs.Faults.{said, placeOf, numberOf, firstFault}
-use Rattle.text.specs.Code.{resolved}
-use Rattle.text.specs.declared.forms.Reading.{Reading}
+use Rattle.reading.specs.Code.{resolved}
+use Rattle.reading.specs.declared.Reading.{Reading}
 use Rattle.image.specs.Layout.{cellBytes}
 use Rattle.translation.specs.declared.Places.{Places}
 use Rattle.translation.specs.declared.Placed.{Placed}

@@ -5,7 +5,7 @@ ghost use Prim.Native.Nat.{_≤_};
 ghost use lib.ListN.{length, drop};
 ghost use Rattle.program.specs.Code.{nameOf};
 ghost use Rattle.text.specs.Faults.{said, firstFault, numberOf, placeOf};
-ghost use Rattle.text.specs.Code.{placed, written, operandWith, resolved};
+ghost use Rattle.reading.specs.Code.{placed, written, operandWith, resolved};
 ghost use Rattle.names.specs.Code.{Keyed, KeyOperand, countsOf};
 ghost use Rattle.image.specs.Layout.{imageLength};
 ghost use Rattle.translation.specs.Images.{cellPart, labelPart, variablePart, imageOf};
@@ -14,7 +14,7 @@ use names::Counts;
 use program::Cell;
 use program::Operand;
 use program::Variable;
-use text::forms::Reading;
+use reading::Reading;
 
 // Where the next cell, label record and variable record of an image go.
 pub struct Places {
@@ -153,7 +153,7 @@ fn emit_lines(s: &[u8], buffer: &mut [u8], start: Places)
     while at < s.len() {
         let span = text::line_at(s, at);
         let end = span.end;
-        let reading = text::read_line(&s[at..end]);
+        let reading = reading::read_line(&s[at..end]);
         places = emit_line(s, buffer, reading, places);
         at = span.next;
     }
@@ -210,7 +210,7 @@ pub fn line_of(s: &[u8], place: u16) -> Placed
     while at < s.len() {
         let span = text::line_at(s, at);
         let end = span.end;
-        let reading = text::read_line(&s[at..end]);
+        let reading = reading::read_line(&s[at..end]);
         let kind = reading.kind;
         if (kind == Reading::ACTS) & (left == 0) {
             return Placed {

@@ -16,7 +16,7 @@ more-if-requires-3 c κs = search needs
 
 returns : tie.Need-returns
 unfolding counted
-returns c = (cc)
+returns c = rw (c .before .before .more-if .ensures, c .before .more-if2 .ensures, c .more-if3 .ensures)
 
 pub counted-spec : {M : Type 1} → statement M
 counted-spec = tie.close (tie.spec more-if-requires more-if-requires-2 more-if-requires-3 returns)

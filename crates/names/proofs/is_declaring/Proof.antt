@@ -1,7 +1,7 @@
 -- `is_declaring` meets its contract.
 -- Assumes nothing.
 use mathlib.Core.Path.{refl}
-use Rattle.names.specs.Code.{declaring}
+use Rattle.reading.specs.Code.{declaring}
 use Rattle.names.proofs.is_declaring.Statement.{statement}
 use Rattle.names.proofs.is_declaring.Tie as tie
 

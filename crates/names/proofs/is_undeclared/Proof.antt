@@ -19,7 +19,8 @@ is-unknown-operand-requires-2 c κs = search needs
 
 returns : tie.Need-returns
 unfolding unknownCell
-returns c = (cc)
+returns c =
+    rw (c .before .before .before .is-unknown-target .ensures, c .before .before .is-unknown-written .ensures, c .before .is-unknown-operand .ensures, c .is-unknown-operand2 .ensures)
 
 pub is-undeclared-spec : {M : Type 1} → statement M
 is-undeclared-spec =

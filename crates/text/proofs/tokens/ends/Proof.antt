@@ -10,7 +10,7 @@ joins-requires c κs = search needs
 
 returns : tie.Need-returns
 unfolding ends
-returns c = cc
+returns c = rw (c .joins .ensures)
 
 pub ends-spec : {M : Type 1} → statement M
 ends-spec = tie.close (tie.spec joins-requires returns)

@@ -13,7 +13,7 @@ is-digit-requires c κs = search needs
 
 returns : tie.Need-returns
 unfolding wordCharacter
-returns c = cc
+returns c = rw (c .before .is-letter .ensures, c .is-digit .ensures)
 
 pub is-word-character-spec : {M : Type 1} → statement M
 is-word-character-spec = tie.close (tie.spec is-letter-requires is-digit-requires returns)

@@ -13,7 +13,7 @@ is-word-character-requires-2 c κs = search needs
 
 returns : tie.Need-returns
 unfolding joins
-returns c = cc
+returns c = rw (c .before .is-word-character .ensures, c .is-word-character2 .ensures)
 
 pub joins-spec : {M : Type 1} → statement M
 joins-spec = tie.close (tie.spec is-word-character-requires is-word-character-requires-2 returns)

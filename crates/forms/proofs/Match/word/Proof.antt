@@ -1,0 +1,36 @@
+-- `Match::word` meets its contract.
+-- Assumes nothing.
+use borrow.Author.Needs.{needs}
+use Rattle.numbers.proofs.Kit.{tests}
+use Rattle.forms.specs.Code.{keptBy, wordBy}
+use Rattle.forms.proofs.Match.word.Statement.{statement}
+use Rattle.forms.proofs.Match.word.Tie as tie
+
+fits-requires : tie.Need-fits-requires
+fits-requires c κs = search needs
+
+add-self : tie.Need-add-self
+add-self c = search needs
+
+returns : tie.Need-returns
+unfolding wordBy keptBy
+returns c = rw (c .before .before .before .fits2 .ensures, c .if1 .taken)
+
+returns-2 : tie.Need-returns-2
+unfolding wordBy keptBy
+returns-2 c = rw (c .before .before .before .before .fits2 .ensures, c .before .if1 .left) (search tests)
+
+returns-3 : tie.Need-returns-3
+unfolding wordBy keptBy
+returns-3 c = rw (c .before .before .before .before .before .fits2 .ensures, c .before .before .if1 .left) (search tests)
+
+returns-4 : tie.Need-returns-4
+unfolding wordBy keptBy
+returns-4 c = rw (c .before .before .before .before .before .before .fits2 .ensures, c .before .before .before .if1 .left) (search tests)
+
+returns-5 : tie.Need-returns-5
+unfolding wordBy keptBy
+returns-5 c = rw (c .before .before .before .before .before .before .fits2 .ensures, c .before .before .before .if1 .left) (search tests)
+
+pub word-spec : {M : Type 1} → statement M
+word-spec = tie.close (tie.spec fits-requires add-self returns returns-2 returns-3 returns-4 returns-5)

@@ -1,0 +1,98 @@
+-- What the functions that match tokens with forms need of their values.
+-- Assumes nothing.
+use mathlib.Core.Path.{_≡_, refl, sym, ap, _∙_}
+use mathlib.Core.Bool.{Bool, true, false, cond, _&&_, _||_}
+use mathlib.Core.List.{List, [], _∷_}
+use Prim.Native.Nat.{ℕ, zero, suc, _+_, _≤_, _<_}
+use native.Mathlib.Nat.{not-suc-le-zero, le-of-suc-le-suc}
+use native.Mathlib.Numerals.{add-one}
+use native.Mathlib.Omega.{arith}
+use borrow.Author.Tests.{eq-eqb, ne-eqb}
+use lib.Dec.{T, eqb, eqb→eq}
+use lib.ListN.{length, drop, getD, drop-of-length-le}
+use lib.Seq.{drop-cons}
+use Rattle.numbers.specs.Tests.{allOf}
+use Rattle.program.specs.Code.{key, nameOf}
+use Rattle.numbers.proofs.Truth.{both}
+use Rattle.text.specs.Forms.{variableName}
+use Rattle.text.specs.Code.{tokenAt}
+use Rattle.forms.specs.Code.{literalBy, variableBy, operandBy, slotBy, wordBy, fillBy, slotTable, slotsOf, foundBy, valueBy, keptBy}
+use Rattle.text.specs.declared.tokens.Token.{Token}
+use Rattle.forms.specs.declared.Taken.{Taken}
+use Rattle.forms.specs.declared.Match.{Match}
+
+-- An operand: a literal, or else a variable.
+pub operand-variable : (t u : Token) {l v : Taken} → l ≡ literalBy t u → l .used ≡ 0 → v ≡ variableBy (t .key) → v ≡ operandBy t u
+unfolding operandBy
+operand-variable t u p e q = let f : literalBy t u .used ≡ 0 = rw p at e in rw (eq-eqb _ _ f) q
+
+pub operand-literal : (t u : Token) {l : Taken} → l ≡ literalBy t u → (l .used ≡ 0 → ⊥) → l ≡ operandBy t u
+unfolding operandBy
+operand-literal t u p e = let f : literalBy t u .used ≡ 0 → ⊥ = rw p at e in rw (ne-eqb _ _ f) p
+
+-- It takes at most two tokens.
+used-cond : (t : Bool) (x y : Taken) → x .used ≤ 2 → y .used ≤ 2 → cond t x y .used ≤ 2
+used-cond true x y p q = p
+used-cond false x y p q = q
+
+literal-used : (t u : Token) → literalBy t u .used ≤ 2
+unfolding literalBy
+literal-used t u = used-cond (t .digits) _ _ (omega arith) (used-cond ((eqb (t .key) 45 && t .glued) && u .digits) _ _ (omega arith) (omega arith))
+
+operand-used : (t u : Token) → operandBy t u .used ≤ 2
+unfolding operandBy variableBy
+operand-used t u = used-cond (eqb (literalBy t u .used) 0) _ _ (used-cond (variableName (nameOf (t .key))) _ _ (omega arith) (omega arith)) (literal-used t u)
+
+pub found-used : (slot : ℕ) (t u : Token) → foundBy slot t u .used ≤ 2
+unfolding foundBy
+found-used slot t u = used-cond (eqb slot 6) _ _ (literal-used t u) (operand-used t u)
+
+cond-true : (t : Bool) (x y : Match) → t ≡ true → cond t x y ≡ x
+cond-true t x y e = rw e
+
+-- The slots one after the other.
+module _ (ts : List Token) (m : Match) where
+  pub fill-stop : (ss : List ℕ) → m .ok ≡ false → fillBy ss ts m ≡ m
+  unfolding fillBy
+  fill-stop [] e = refl
+  fill-stop (s ∷ ss) e = rw e
+
+  pub fill-more : (l : List ℕ) (k : ℕ) {s : ℕ} {t u : Token} {n : Match} → k < length l → m .ok ≡ true → s ≡ getD l k 0
+      → t ≡ tokenAt ts (m .place) → u ≡ tokenAt ts (m .place + 1) → n ≡ slotBy m s t u
+      → fillBy (drop (k + 1) l) ts n ≡ fillBy (drop k l) ts m
+  unfolding fillBy
+  fill-more l k h e p q r f =
+      rw (add-one, f, p, q, r)
+      (sym (ap (λ (x : List ℕ). fillBy x ts m) (drop-cons l k 0 h) ∙ cond-true (m .ok) _ _ e))
+
+place-cond : (t : Bool) (x y : Match) (n : ℕ) → x .place ≤ n → y .place ≤ n → cond t x y .place ≤ n
+place-cond true x y n p q = p
+place-cond false x y n p q = q
+
+kept-place : (m : Match) (s k : ℕ) → keptBy m s k .place ≤ m .place
+unfolding keptBy
+kept-place m s k =
+    place-cond (eqb s 1 || eqb s 2) _ _ _ (omega arith)
+    (place-cond (eqb s 3) _ _ _ (omega arith) (place-cond (eqb s 7) _ _ _ (omega arith) (place-cond (eqb s 8) _ _ _ (omega arith) (omega arith))))
+
+pub slot-place : (m : Match) (s : ℕ) (t u : Token) {n : Match} → n ≡ slotBy m s t u → n .place ≤ m .place + 2
+unfolding slotBy valueBy wordBy
+slot-place m s t u f =
+    rw f
+    (place-cond (eqb s 0) _ _ _ (omega arith)
+    (place-cond ((eqb s 4 || eqb s 5) || eqb s 6) _ _ _ (omega (arith, found-used s t u)) (omega (arith, kept-place m s (t .key)))))
+
+-- Six slots to a form, and none is left behind them.
+each-at : (P : List ℕ → Bool) (ls : List (List ℕ)) → T (allOf P ls) → (i : ℕ) → i < length ls → T (P (getD ls i []))
+unfolding allOf
+each-at P [] a i h = absurd (not-suc-le-zero h)
+each-at P (l ∷ ls) a zero h = both (P l) (allOf P ls) a .0
+each-at P (l ∷ ls) a (suc i) h = each-at P ls (both (P l) (allOf P ls) a .1) i (le-of-suc-le-suc h)
+
+pub slots-length : (form : ℕ) → form < 21 → length (slotsOf form) ≡ 6
+unfolding slotsOf slotTable allOf
+slots-length form h = eqb→eq (length (slotsOf form)) 6 (each-at (λ l. eqb (length l) 6) slotTable tt form h)
+
+pub fill-end : (ts : List Token) (m : Match) (l : List ℕ) (k : ℕ) → length l ≤ k → fillBy (drop k l) ts m ≡ m
+unfolding fillBy
+fill-end ts m l k h = rw (drop-of-length-le l h)

@@ -1,0 +1,27 @@
+-- `operand` meets its contract.
+-- Assumes nothing.
+use borrow.Author.Needs.{needs}
+use Rattle.forms.proofs.Matching.{operand-variable, operand-literal}
+use Rattle.forms.proofs.operand.Statement.{statement}
+use Rattle.forms.proofs.operand.Tie as tie
+
+literal-requires : tie.Need-literal-requires
+literal-requires c κs = search needs
+
+variable-requires : tie.Need-variable-requires
+variable-requires c κs = search needs
+
+returns : tie.Need-returns
+returns c =
+    let l = c .before .before .before in
+    let a = l .before .args in
+    operand-variable (a .t) (a .u) (l .literal .ensures) (c .before .if1 .taken) (c .variable .ensures)
+
+returns-2 : tie.Need-returns-2
+returns-2 c =
+    let l = c .before .before in
+    let a = l .before .args in
+    operand-literal (a .t) (a .u) (l .literal .ensures) (c .if1 .left)
+
+pub operand-spec : {M : Type 1} → statement M
+operand-spec = tie.close (tie.spec literal-requires variable-requires returns returns-2)

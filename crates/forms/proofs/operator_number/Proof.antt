@@ -1,0 +1,41 @@
+-- `operator_number` meets its contract: the table holds the signs in the order of their numbers.
+-- Assumes nothing.
+use mathlib.Core.Path.{_≡_}
+use native.Mathlib.Omega.{arith}
+use borrow.Author.Needs.{needs}
+use Rattle.numbers.specs.Bytes.{ascii, number}
+use Rattle.numbers.specs.Tests.{numbered}
+use Rattle.program.specs.Cells.{operatorNumber}
+use Rattle.program.specs.Code.{nameOf, namesOf}
+use Rattle.program.proofs.Places.{numbered-most}
+use Rattle.forms.specs.Code.{operatorBy}
+use Rattle.text.specs.Forms.{operatorSign}
+use Rattle.text.proofs.Signs.{operatorSigns, operator-placed, none-found, sign-found}
+use Rattle.forms.proofs.operator_number.Statement.{statement}
+use Rattle.forms.proofs.operator_number.Tie as tie
+
+slice-aggregate-place-in : tie.Need-slice-aggregate-place-in
+slice-aggregate-place-in c = search needs
+
+place-in-requires : tie.Need-place-in-requires
+place-in-requires c κs = search needs
+
+-- The place that is found is that of the sign.
+at : (c : tie.After-place-in) → c .place-in .result ≡ numbered operatorSigns (nameOf (c .before .before .args .key))
+unfolding operatorSigns operatorSign ascii namesOf nameOf number
+at c = c .place-in .ensures
+
+returns : tie.Need-returns
+unfolding operatorBy operatorNumber
+returns c = none-found (operator-placed (nameOf _)) (at (c .before)) (search needs)
+
+cast-result : tie.Need-cast-result
+unfolding operatorSigns
+cast-result c = record { fits = omega (arith, at (c .before), numbered-most operatorSigns (nameOf (c .before .before .before .args .key))) }
+
+returns-2 : tie.Need-returns-2
+unfolding operatorBy
+returns-2 c = sign-found (operator-placed (nameOf _)) (at (c .before)) (search needs)
+
+pub operator-number-spec : {M : Type 1} → statement M
+operator-number-spec = tie.close (tie.spec slice-aggregate-place-in place-in-requires returns cast-result returns-2)

@@ -1,0 +1,367 @@
+// The forms of statements, and what the tokens of a line take in their slots.
+use program::Cell;
+use program::Variable;
+use program::names;
+use text::tokens::Token;
+use text::tokens::Tokens;
+ghost use mathlib.Core.Path.{_≡_};
+ghost use mathlib.Core.Bool.{cond};
+ghost use Prim.Native.Nat.{_<_};
+ghost use lib.ListN.{getD};
+ghost use Rattle.program.specs.Cells.{operatorNumber, comparisonNumber};
+ghost use Rattle.program.specs.Code.{nameOf};
+ghost use Rattle.text.specs.Forms.{variableName};
+ghost use Rattle.text.specs.Code.{isOperator, isComparison};
+ghost use Rattle.forms.specs.Code.{noMatch, literalBy, variableBy, operandBy, foundBy, operatorBy, comparisonBy, fitsBy, wordBy, valueBy, slotBy, fillBy, slotsOf};
+
+// How many values a character of a key has.
+const BYTE: u16 = 256;
+
+// What a slot of a form takes; any other number is the key of the very characters that it takes.
+const NOTHING: u16 = 0;
+
+const NEW: u16 = 1;
+
+const TARGET: u16 = 2;
+
+const WRITTEN: u16 = 3;
+
+const LEFT: u16 = 4;
+
+const RIGHT: u16 = 5;
+
+const START: u16 = 6;
+
+const OPERATOR: u16 = 7;
+
+const COMPARISON: u16 = 8;
+
+pub const LB: u16 = (b'L' as u16) + BYTE * (b'B' as u16);
+
+pub const VA: u16 = (b'V' as u16) + BYTE * (b'A' as u16);
+
+const IC: u16 = (b'I' as u16) + BYTE * (b'C' as u16);
+
+const DC: u16 = (b'D' as u16) + BYTE * (b'C' as u16);
+
+const BR: u16 = (b'B' as u16) + BYTE * (b'R' as u16);
+
+const CL: u16 = (b'C' as u16) + BYTE * (b'L' as u16);
+
+const RT: u16 = (b'R' as u16) + BYTE * (b'T' as u16);
+
+const E: u16 = b'E' as u16;
+
+const H: u16 = b'H' as u16;
+
+const OE: u16 = (b'O' as u16) + BYTE * (b'E' as u16);
+
+const MA: u16 = (b'M' as u16) + BYTE * (b'A' as u16);
+
+const MR: u16 = (b'M' as u16) + BYTE * (b'R' as u16);
+
+const SL: u16 = (b'S' as u16) + BYTE * (b'L' as u16);
+
+const PR: u16 = (b'P' as u16) + BYTE * (b'R' as u16);
+
+const EQUALS: u16 = b'=' as u16;
+
+const COMMA: u16 = b',' as u16;
+
+const ZERO: u16 = b'0' as u16;
+
+const MINUS: u16 = b'-' as u16;
+
+// How many slots a form has at most, and how many forms there are.
+const SLOTS: usize = 6;
+
+pub const COUNT: usize = 21;
+
+// The slots of the forms.
+const FORMS: [[u16; 6]; 21] = [
+    [LB, NEW, 0, 0, 0, 0],
+    [VA, NEW, 0, 0, 0, 0],
+    [VA, NEW, EQUALS, START, 0, 0],
+    [WRITTEN, EQUALS, LEFT, 0, 0, 0],
+    [WRITTEN, EQUALS, LEFT, OPERATOR, RIGHT, 0],
+    [IC, WRITTEN, 0, 0, 0, 0],
+    [DC, WRITTEN, 0, 0, 0, 0],
+    [BR, TARGET, 0, 0, 0, 0],
+    [BR, TARGET, COMMA, LEFT, COMPARISON, RIGHT],
+    [CL, TARGET, 0, 0, 0, 0],
+    [CL, TARGET, COMMA, LEFT, COMPARISON, RIGHT],
+    [RT, 0, 0, 0, 0, 0],
+    [E, 0, 0, 0, 0, 0],
+    [H, 0, 0, 0, 0, 0],
+    [H, LEFT, 0, 0, 0, 0],
+    [OE, TARGET, 0, 0, 0, 0],
+    [OE, ZERO, 0, 0, 0, 0],
+    [MA, LEFT, 0, 0, 0, 0],
+    [MR, LEFT, 0, 0, 0, 0],
+    [SL, LEFT, 0, 0, 0, 0],
+    [PR, LEFT, 0, 0, 0, 0],
+];
+
+// The operators and the comparisons in the order of their numbers, two bytes each.
+const OPERATORS: [u8; 14] = *b"+\0-\0*\0/\0&\0|\0^\0";
+
+const COMPARISONS: [u8; 12] = *b"=\0<><\0<=>\0>=";
+
+// An operand: a literal by its sign and its size, or a variable by its key.
+pub enum Value {
+    Literal(bool, u64),
+    Variable(u16),
+}
+
+// How many tokens an operand takes, and what it is; none where no operand stands there.
+pub struct Taken {
+    pub used: usize,
+    pub value: Value,
+}
+
+// What the slots of a form took so far: whether each took something, where the next token stands, and the parts; a name and a sign by its key.
+pub struct Match {
+    pub ok: bool,
+    pub place: usize,
+    pub name: u16,
+    pub written: u16,
+    pub left: Value,
+    pub operator: u16,
+    pub comparison: u16,
+    pub right: Value,
+    pub start: Value,
+}
+
+fn is_variable(key: u16) -> bool
+    ensures { λ r. ⌜ r ≡ variableName (nameOf key) ⌝ }
+{
+    (Variable::number_of(key) != 0) | names::is_user_name(key)
+}
+
+// The sign of an operator; of a comparison.
+fn is_operator(key: u16) -> bool
+    ensures { λ r. ⌜ r ≡ isOperator (nameOf key) ⌝ }
+{
+    names::place_in(&OPERATORS, key) != 0
+}
+
+fn is_comparison(key: u16) -> bool
+    ensures { λ r. ⌜ r ≡ isComparison (nameOf key) ⌝ }
+{
+    names::place_in(&COMPARISONS, key) != 0
+}
+
+// The number that a sign has in a cell; what is no sign gets the last one.
+pub fn operator_number(key: u16) -> u8
+    ensures { λ r. ⌜ r ≡ operatorNumber (operatorBy (nameOf key)) ⌝ }
+{
+    let place = names::place_in(&OPERATORS, key);
+    if place == 0 {
+        return Cell::XOR;
+    }
+    place as u8
+}
+
+pub fn comparison_number(key: u16) -> u8
+    ensures { λ r. ⌜ r ≡ comparisonNumber (comparisonBy (nameOf key)) ⌝ }
+{
+    let place = names::place_in(&COMPARISONS, key);
+    if place == 0 {
+        return Cell::AT_LEAST;
+    }
+    place as u8
+}
+
+// A literal at the front of two tokens: digits, or a minus with digits directly behind it.
+fn literal(t: Token, u: Token) -> Taken
+    ensures { λ r. ⌜ r ≡ literalBy t u ⌝ }
+{
+    if t.digits {
+        return Taken {
+            used: 1,
+            value: Value::Literal(false, t.value),
+        };
+    }
+    if (t.key == MINUS) & t.glued & u.digits {
+        return Taken {
+            used: 2,
+            value: Value::Literal(true, u.value),
+        };
+    }
+    Taken {
+        used: 0,
+        value: Value::Literal(false, 0),
+    }
+}
+
+fn variable(key: u16) -> Taken
+    ensures { λ r. ⌜ r ≡ variableBy key ⌝ }
+{
+    if is_variable(key) {
+        return Taken {
+            used: 1,
+            value: Value::Variable(key),
+        };
+    }
+    Taken {
+        used: 0,
+        value: Value::Literal(false, 0),
+    }
+}
+
+fn operand(t: Token, u: Token) -> Taken
+    ensures { λ r. ⌜ r ≡ operandBy t u ⌝ }
+{
+    let l = literal(t, u);
+    if l.used == 0 {
+        return variable(t.key);
+    }
+    l
+}
+
+impl Match {
+    fn none() -> Match
+        ensures { λ r. ⌜ r ≡ noMatch ⌝ }
+    {
+        Match {
+            ok: true,
+            place: 0,
+            name: 0,
+            written: 0,
+            left: Value::Literal(false, 0),
+            operator: 0,
+            comparison: 0,
+            right: Value::Literal(false, 0),
+            start: Value::Literal(false, 0),
+        }
+    }
+
+    // A slot that takes a word, by the word's key.
+    fn word(mut self, slot: u16, key: u16) -> Match
+        requires { ⌜ self .place < 64 ⌝ }
+        ensures { λ r. ⌜ r ≡ wordBy self slot key ⌝ }
+    {
+        self.ok = self.ok & fits(slot, key);
+        self.place = self.place + 1;
+        if (slot == NEW) | (slot == TARGET) {
+            self.name = key;
+            return self;
+        }
+        if slot == WRITTEN {
+            self.written = key;
+            return self;
+        }
+        if slot == OPERATOR {
+            self.operator = key;
+            return self;
+        }
+        if slot == COMPARISON {
+            self.comparison = key;
+            return self;
+        }
+        self
+    }
+
+    // A slot that takes a value.
+    fn value(self, slot: u16, x: Taken) -> Match
+        requires { ⌜ (self .place < 64) × (x .used < 64) ⌝ }
+        ensures { λ r. ⌜ r ≡ valueBy self slot x ⌝ }
+    {
+        let value = x.value;
+        let left = self.left;
+        let right = self.right;
+        let start = self.start;
+        Match {
+            ok: self.ok & (x.used != 0),
+            place: self.place + x.used,
+            name: self.name,
+            written: self.written,
+            left: chosen(slot == LEFT, value, left),
+            operator: self.operator,
+            comparison: self.comparison,
+            right: chosen(slot == RIGHT, value, right),
+            start: chosen(slot == START, value, start),
+        }
+    }
+
+    // A slot, with the next two tokens.
+    fn slot(self, slot: u16, t: Token, u: Token) -> Match
+        requires { ⌜ self .place < 64 ⌝ }
+        ensures { λ r. ⌜ r ≡ slotBy self slot t u ⌝ }
+    {
+        if slot == NOTHING {
+            return self;
+        }
+        if (slot == LEFT) | (slot == RIGHT) | (slot == START) {
+            return self.value(slot, found(slot, t, u));
+        }
+        self.word(slot, t.key)
+    }
+}
+
+// The word of this key fits the slot.
+fn fits(slot: u16, key: u16) -> bool
+    ensures { λ r. ⌜ r ≡ fitsBy slot key ⌝ }
+{
+    if slot == NEW {
+        return names::has_two_characters(key);
+    }
+    if slot == TARGET {
+        return names::is_user_name(key);
+    }
+    if slot == WRITTEN {
+        return is_variable(key);
+    }
+    if slot == OPERATOR {
+        return is_operator(key);
+    }
+    if slot == COMPARISON {
+        return is_comparison(key);
+    }
+    slot == key
+}
+
+// What a slot for a value finds.
+fn found(slot: u16, t: Token, u: Token) -> Taken
+    ensures { λ r. ⌜ r ≡ foundBy slot t u ⌝ }
+{
+    if slot == START {
+        return literal(t, u);
+    }
+    operand(t, u)
+}
+
+fn chosen(first: bool, x: Value, y: Value) -> Value
+    ensures { λ r. ⌜ r ≡ cond first x y ⌝ }
+{
+    if first {
+        return x;
+    }
+    y
+}
+
+// The slot of a form at a place.
+fn slot_at(form: usize, at: usize) -> u16
+    requires { ⌜ (form < 21) × (at < 6) ⌝ }
+    ensures { λ r. ⌜ r ≡ getD (slotsOf form) at 0 ⌝ }
+{
+    FORMS[form][at]
+}
+
+// What the slots of a form take of the tokens.
+pub fn fill(form: usize, ts: Tokens) -> Match
+    requires { ⌜ form < 21 ⌝ }
+    ensures { λ r. ⌜ r ≡ fillBy (slotsOf form) (ts .at) noMatch ⌝ }
+{
+    let mut m = Match::none();
+    let mut k: usize = 0;
+    while k < SLOTS {
+        if !m.ok {
+            return m;
+        }
+        let place = m.place;
+        m = m.slot(slot_at(form, k), ts.token(place), ts.token(place + 1));
+        k += 1;
+    }
+    m
+}

@@ -1,0 +1,6 @@
+pub mod Values
+pub mod Parts
+pub mod Rows
+pub mod Readings
+pub mod Heard
+pub mod Openings

@@ -1,0 +1,20 @@
+-- `left` meets its contract.
+-- Assumes nothing.
+use borrow.Author.Needs.{needs}
+use Rattle.reading.specs.Code.{leftBy}
+use Rattle.reading.proofs.cells.left.Statement.{statement}
+use Rattle.reading.proofs.cells.left.Tie as tie
+
+operand-requires : tie.Need-operand-requires
+operand-requires c κs = search needs
+
+returns : tie.Need-returns
+unfolding leftBy
+returns c = rw (c .operand .ensures, c .before .if1 .taken)
+
+returns-2 : tie.Need-returns-2
+unfolding leftBy
+returns-2 c = rw (c .if1 .left)
+
+pub left-spec : {M : Type 1} → statement M
+left-spec = tie.close (tie.spec operand-requires returns returns-2)

@@ -1,0 +1,29 @@
+-- `selector` meets its contract.
+-- Assumes nothing.
+use borrow.Author.Needs.{needs}
+use Rattle.numbers.proofs.Kit.{tests}
+use Rattle.reading.specs.Code.{selectorBy}
+use Rattle.reading.proofs.cells.selector.Statement.{statement}
+use Rattle.reading.proofs.cells.selector.Tie as tie
+
+returns : tie.Need-returns
+unfolding selectorBy
+returns c = search tests
+
+operator-number-requires : tie.Need-operator-number-requires
+operator-number-requires c κs = search needs
+
+returns-2 : tie.Need-returns-2
+unfolding selectorBy
+returns-2 c = rw (c .operator-number .ensures) (search tests)
+
+comparison-number-requires : tie.Need-comparison-number-requires
+comparison-number-requires c κs = search needs
+
+returns-3 : tie.Need-returns-3
+unfolding selectorBy
+returns-3 c = rw (c .comparison-number .ensures) (search tests)
+
+pub selector-spec : {M : Type 1} → statement M
+selector-spec =
+    tie.close (tie.spec returns operator-number-requires returns-2 comparison-number-requires returns-3)
