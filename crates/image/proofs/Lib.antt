@@ -1,4 +1,5 @@
 pub mod Laws
+pub mod Marks
 pub mod Any
 pub mod Records
 pub mod Back

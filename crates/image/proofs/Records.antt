@@ -1,23 +1,24 @@
 -- What a trailer that fits tells, and names as numbers: the tests of records on keys are those of Check on names.
 -- Assumes nothing.
 use mathlib.Core.Path.{_≡_, refl, sym, subst, ap, ap₂, _∙_}
-use mathlib.Core.Bool.{Bool, true, false, _||_, not}
+use mathlib.Core.Bool.{Bool, true, false, cond, _&&_, _||_, not}
 use mathlib.Core.List.{List}
-use Prim.Native.Nat.{ℕ, _+_, _*_, _^_, _≤_, _<_}
+use Prim.Native.Nat.{ℕ, _+_, _*_, _/_, _%_, _^_, _≤_, _<_}
 use native.Mathlib.Omega.{arith}
 use native.Mathlib.Decide.{decLt}
 use borrow.Author.Tests.{lt-ltb, le-ltb, ltb-false, eqb-true, not-false}
 use lib.Dec.{T, eqb, eqb-refl, eqb→eq}
 use lib.ListN.{length}
-use Rattle.numbers.specs.Bytes.{bytes, number}
+use Rattle.numbers.specs.Bytes.{bytes, number, field}
 use Rattle.numbers.specs.Tests.{eqList, anyOf}
 use Rattle.numbers.proofs.Laws.{Bytes, there-and-back, bytes-field, field-below}
 use Rattle.program.specs.Names.{userName}
 use Rattle.program.specs.Variables.{mostCells, mostLabels, mostVariables}
 use Rattle.program.proofs.Keys.{same-test, eqList-refl, eqList-eq, user-bytes}
 use Rattle.image.specs.Layout.{imageLength, cellCount, labelCount, variableCount, firstLabelPlace, wholeLength, labelPlace, variablePlace, nameAt}
-use Rattle.image.specs.Check.{badTrailer, layouts, fits, recordPlace, recordName, badName}
+use Rattle.image.specs.Check.{badTrailer, Use, layouts, goodWritten, goodSelector, goodOperand, goodTarget, fits, recordPlace, recordName, badName, badCell}
 use Rattle.image.specs.Code.{recordPlaceOf, keyOf, repeatedKey, badKey, fieldsAt, fitsOf}
+use Rattle.image.specs.declared.check.Fields.{Fields}
 use Rattle.image.proofs.Any.{same-search}
 
 -- A trailer that fits the image and the limits.
@@ -87,7 +88,41 @@ module _ (s : List ℕ) (byte : Bytes s) (fit : Fitting s) where
       (sym (ap userName (name-key k h) ∙ user-bytes (keyAt k) (key-below k)))
       (same-search k (λ j l. sym (ap₂ eqList (name-key j (omega arith)) (name-key k h) ∙ eq-bytes 2 (keyAt j) (keyAt k) (key-below j) (key-below k))))
 
--- A cell's fields fit a layout where those at its place do.
-pub layouts-fit : (s : List ℕ) (k : ℕ) → anyOf (fitsOf s (variableCount s) (fieldsAt s k)) layouts ≡ anyOf (fits s (16 * k)) layouts
-unfolding fitsOf fieldsAt fits
-layouts-fit s k = refl
+-- A test behind that of two numbers may take either.
+either-number : (m n : ℕ) (p : ℕ → Bool) → (eqb m n && p m) ≡ (eqb m n && p n)
+either-number m n p = tested (eqb m n) refl where
+  tested : (t : Bool) → eqb m n ≡ t → (t && p m) ≡ (t && p n)
+  tested true e = ap p (eqb-true m n e)
+  tested false e = refl
+
+-- A target that is used or not.
+aimed-target : (s : List ℕ) (operation target : ℕ) (used : Bool) → cond used (goodTarget s operation true target) (eqb target 0) ≡ goodTarget s operation used target
+unfolding goodTarget
+aimed-target s operation target true = refl
+aimed-target s operation target false = refl
+
+-- A cell's fields fit a layout where those at its place do; its target is judged by its own operation.
+module _ (s : List ℕ) (k : ℕ) where
+  abbrev aimed : Bool
+  aimed = goodTarget s (field 1 (16 * k) s) true (field 2 (16 * k + 12) s)
+
+  layout-fits : (u : Use) → fitsOf (variableCount s) aimed (fieldsAt s k) u ≡ fits s (16 * k) u
+  unfolding fitsOf fieldsAt fits
+  layout-fits u =
+      rw (aimed-target s (field 1 (16 * k) s) (field 2 (16 * k + 12) s) (u .target))
+      (either-number (field 1 (16 * k) s) (u .operation) (λ o.
+        goodWritten (variableCount s) (u .writes) (field 1 (16 * k + 1) s)
+        && (goodSelector (u .selectors) (field 1 (16 * k + 2) s)
+        && (goodOperand (variableCount s) (u .left) (field 1 (16 * k + 3) s % 4) (field 4 (16 * k + 4) s)
+        && (goodOperand (variableCount s) (u .right) (field 1 (16 * k + 3) s / 4) (field 4 (16 * k + 8) s)
+        && (goodTarget s o (u .target) (field 2 (16 * k + 12) s) && eqb (field 2 (16 * k + 14) s) 0))))))
+
+  pub layouts-fit : anyOf (fitsOf (variableCount s) aimed (fieldsAt s k)) layouts ≡ anyOf (fits s (16 * k)) layouts
+  unfolding anyOf layouts
+  layouts-fit = simp layout-fits
+
+  -- What a cell's fields, its target and the layouts were found to be.
+  pub cell-judged-by : {variables : ℕ} {f : Fields} {a fit : Bool} → variables ≡ variableCount s → f ≡ fieldsAt s k → a ≡ goodTarget s (f .operation) true (f .target)
+      → fit ≡ anyOf (fitsOf variables a f) layouts → not fit ≡ badCell s k
+  unfolding badCell fieldsAt
+  cell-judged-by v e t h = rw (h, t, e, v, layouts-fit)

@@ -1,10 +1,12 @@
 -- How the code goes about an image: places by the counts, for a trailer that is read once; a name as a number; the start of a cell, and its fields as they stand.
 -- No demand reaches this; proofs/ tie it to Layout and Check.
 -- Assumes nothing.
-use mathlib.Core.Bool.{Bool, cond, _&&_, _||_, not}
+use mathlib.Core.Path.{_≡_}
+use mathlib.Core.Bool.{Bool, false, cond, _&&_, _||_, not}
 use mathlib.Core.List.{List, _++_}
-use Prim.Native.Nat.{ℕ, _+_, _*_, _-_, _/_, _%_}
+use Prim.Native.Nat.{ℕ, _+_, _*_, _-_, _/_, _%_, _<_}
 use lib.Dec.{eqb, leb, ltb}
+use lib.ListN.{length, getD}
 use Rattle.numbers.specs.Bytes.{bytes, field}
 use Rattle.numbers.specs.Bits.{signed32}
 use Rattle.numbers.specs.Tests.{anyBelow}
@@ -13,7 +15,7 @@ use Rattle.program.specs.Names.{userName}
 use Rattle.program.specs.Code.{nameOf}
 use Rattle.program.specs.Variables.{inRange, literals}
 use Rattle.image.specs.Layout.{shape, labelCount, labelTarget}
-use Rattle.image.specs.Check.{Use, uses, goodWritten, goodSelector, goodOperand, goodTarget}
+use Rattle.image.specs.Check.{Use, uses, goodWritten, goodSelector, goodOperand}
 use Rattle.image.specs.declared.check.Fields.{Fields}
 use Rattle.image.specs.declared.check.Layout.{Layout}
 
@@ -49,6 +51,11 @@ badTargetOf cells s k = (leb 1 k && ltb (targetOf cells s k) (targetOf cells s (
 unfoldable pub labelled : List ℕ → ℕ → Bool
 labelled s target = anyBelow (labelCount s) (λ k. eqb (labelTarget s k) target)
 
+-- A table has a mark at each number below `size` that `key` gives for one of the first n.
+pub record Marked (size : ℕ) (key : ℕ → ℕ) (n : ℕ) (marks : List Bool) : Type 0 where
+  pub long : length marks ≡ size
+  pub each : (x : ℕ) → x < size → getD marks x false ≡ anyBelow n (λ k. eqb (key k) x)
+
 -- 32 digits that are those of a literal; and whether a variable record has no such start value.
 unfoldable pub literalBits : ℕ → Bool
 literalBits n = inRange literals (signed32 n)
@@ -79,11 +86,12 @@ fieldsAt s k =
 abbrev pub useOf : Layout → Use
 useOf u = uses (u .0) (u .1) (u .2) (u .3) (u .4) (u .5)
 
-unfoldable pub fitsOf : List ℕ → ℕ → Fields → Use → Bool
-fitsOf s variables f u =
+-- Whether the target is good where one is used was found before.
+unfoldable pub fitsOf : ℕ → Bool → Fields → Use → Bool
+fitsOf variables aimed f u =
     eqb (f .operation) (u .operation)
     && (goodWritten variables (u .writes) (f .written)
     && (goodSelector (u .selectors) (f .selector)
     && (goodOperand variables (u .left) (f .shapes % 4) (f .left)
     && (goodOperand variables (u .right) (f .shapes / 4) (f .right)
-    && (goodTarget s (u .operation) (u .target) (f .target) && eqb (f .zeros) 0)))))
+    && (cond (u .target) aimed (eqb (f .target) 0) && eqb (f .zeros) 0)))))

@@ -1,11 +1,12 @@
 // What makes an image bad: one test for each row of the refusals.
 ghost use mathlib.Core.Path.{_≡_};
-ghost use mathlib.Core.Bool.{false};
+ghost use mathlib.Core.Bool.{true, false};
 ghost use Prim.Native.Nat.{_+_};
+ghost use lib.ListN.{set};
 ghost use Rattle.numbers.specs.Tests.{anyOf, anyBelow};
-ghost use Rattle.image.specs.Layout.{labelCount, variableCount};
+ghost use Rattle.image.specs.Layout.{labelCount, variableCount, labelTarget};
 ghost use Rattle.image.specs.Check.{badLength, badEdition, badTrailer, layouts, goodWritten, goodSelector, goodOperand, goodTarget, badCell, badCells, badName, badTarget, badStart, badRecords, checked};
-ghost use Rattle.image.specs.Code.{useOf, fieldsAt, fitsOf, recordPlaceOf, keyOf, repeatedKey, targetOf, labelled, badKey, badTargetOf, literalBits, badStartOf};
+ghost use Rattle.image.specs.Code.{Marked, useOf, fieldsAt, fitsOf, recordPlaceOf, keyOf, targetOf, labelled, badTargetOf, literalBits, badStartOf};
 use program::Cell;
 use program::Variable;
 
@@ -25,6 +26,9 @@ const LONGEST: usize = crate::CELL_BYTES * (Cell::MOST as usize)
     + crate::LABEL_BYTES * (Cell::MOST_LABELS as usize)
     + crate::VARIABLE_BYTES * (Variable::MOST_USERS as usize)
     + crate::TRAILER_BYTES;
+
+// A label of a good image has a target below this: one of the cells, or the place behind the last.
+const TARGETS: usize = (Cell::MOST as usize) + 1;
 
 // The fields of a cell as they stand.
 struct Fields {
@@ -153,15 +157,43 @@ fn is_label_target(s: &[u8], target: u16) -> bool
     false
 }
 
-// A label record has the target, or it is that of `OE 0`; unused, it is 0.
-fn good_target(s: &[u8], operation: u8, used: bool, target: u16) -> bool
-    ensures { λ r. ⌜ r ≡ goodTarget (now (s .entry)) operation used target ⌝ }
+// A mark at a place; none past the end.
+fn mark(marks: &mut [bool], place: usize)
+    ensures { λ r. ⌜ now (marks .exit) ≡ set (now (marks .entry)) place true ⌝ }
 {
-    if !used {
-        return target == 0;
+    if marks.len() <= place {
+        return;
     }
+    marks[place] = true;
+}
+
+// The targets of the label records, each marked; those past the table are not.
+fn label_targets(s: &[u8]) -> [bool; TARGETS]
+    ensures { λ r. ⌜ Marked 257 (labelTarget (now (s .entry))) (labelCount (now (s .entry))) r ⌝ }
+{
+    let cells = crate::cell_count(s);
+    let labels = crate::label_count(s);
+    let mut marks = [false; TARGETS];
+    let mut k: u16 = 0;
+    while k < labels {
+        mark(&mut marks, target_at(s, cells, k) as usize);
+        k += 1;
+    }
+    marks
+}
+
+// The target of a cell that uses one: a label record has it, or it is that of `OE 0`. The records are walked only for a target past the
+// table, which no good image has.
+fn good_target(s: &[u8], marks: &[bool; TARGETS], operation: u8, target: u16) -> bool
+    requires { ⌜ Marked 257 (labelTarget (now s)) (labelCount (now s)) (now marks) ⌝ }
+    ensures { λ r. ⌜ r ≡ goodTarget (now (s .entry)) operation true target ⌝ }
+{
     if (operation == Cell::OE) & (target == Cell::NO_TARGET) {
         return true;
+    }
+    let place = target as usize;
+    if place < TARGETS {
+        return marks[place];
     }
     is_label_target(s, target)
 }
@@ -182,9 +214,9 @@ fn fields_at(s: &[u8], k: u16) -> Fields
     }
 }
 
-// A cell has just the fields of a layout.
-fn fits(s: &[u8], variables: u16, f: Fields, u: Layout) -> bool
-    ensures { λ r. ⌜ r ≡ fitsOf (now (s .entry)) variables f (useOf u) ⌝ }
+// A cell has just the fields of a layout. Whether its target is good where one is used was found before.
+fn fits(variables: u16, aimed: bool, f: Fields, u: Layout) -> bool
+    ensures { λ r. ⌜ r ≡ fitsOf variables aimed f (useOf u) ⌝ }
 {
     if f.operation != u.0 {
         return false;
@@ -201,17 +233,19 @@ fn fits(s: &[u8], variables: u16, f: Fields, u: Layout) -> bool
     if !good_operand(variables, u.4, f.shapes / crate::RIGHT_SHAPE, f.right) {
         return false;
     }
-    good_target(s, u.0, u.5, f.target) & (f.zeros == 0)
+    if u.5 {
+        return aimed & (f.zeros == 0);
+    }
+    (f.target == 0) & (f.zeros == 0)
 }
 
-fn has_layout(s: &[u8], f: Fields) -> bool
-    ensures { λ r. ⌜ r ≡ anyOf (fitsOf (now (s .entry)) (variableCount (now (s .entry))) f) layouts ⌝ }
+fn has_layout(variables: u16, aimed: bool, f: Fields) -> bool
+    ensures { λ r. ⌜ r ≡ anyOf (fitsOf variables aimed f) layouts ⌝ }
 {
-    let variables = crate::variable_count(s);
     let table = LAYOUTS;
     let mut i: usize = 0;
     while i < ROWS {
-        if fits(s, variables, f, table[i]) {
+        if fits(variables, aimed, f, table[i]) {
             return true;
         }
         i += 1;
@@ -219,19 +253,25 @@ fn has_layout(s: &[u8], f: Fields) -> bool
     false
 }
 
-fn bad_cell(s: &[u8], k: u16) -> bool
+fn bad_cell(s: &[u8], marks: &[bool; TARGETS], variables: u16, k: u16) -> bool
+    requires { ⌜ Marked 257 (labelTarget (now s)) (labelCount (now s)) (now marks) ⌝ }
+    requires { ⌜ variables ≡ variableCount (now s) ⌝ }
     ensures { λ r. ⌜ r ≡ badCell (now (s .entry)) k ⌝ }
 {
-    !has_layout(s, fields_at(s, k))
+    let f = fields_at(s, k);
+    let aimed = good_target(s, marks, f.operation, f.target);
+    !has_layout(variables, aimed, f)
 }
 
 fn bad_cells(s: &[u8]) -> bool
     ensures { λ r. ⌜ r ≡ badCells (now (s .entry)) ⌝ }
 {
     let cells = crate::cell_count(s);
+    let variables = crate::variable_count(s);
+    let marks = label_targets(s);
     let mut k: u16 = 0;
     while k < cells {
-        if bad_cell(s, k) {
+        if bad_cell(s, &marks, variables, k) {
             return true;
         }
         k += 1;
@@ -256,31 +296,10 @@ fn key_at(s: &[u8], cells: u16, labels: u16, k: u16) -> u16
     numbers::read2(s, record_place(cells, labels, k))
 }
 
-// A record before this one has its name.
-fn is_repeated(s: &[u8], cells: u16, labels: u16, k: u16) -> bool
-    ensures { λ r. ⌜ r ≡ repeatedKey cells labels (now (s .entry)) k ⌝ }
-{
-    let key = key_at(s, cells, labels, k);
-    let mut j: u16 = 0;
-    while j < k {
-        if key_at(s, cells, labels, j) == key {
-            return true;
-        }
-        j += 1;
-    }
-    false
-}
+// The number of any name of two characters is below this: the second one, which counts 256 times, is at most a `Z`.
+const KEYS: usize = 256 * ((b'Z' as usize) + 1);
 
-// A name that no line can declare, or that a record before has.
-fn bad_name(s: &[u8], cells: u16, labels: u16, k: u16) -> bool
-    ensures { λ r. ⌜ r ≡ badKey cells labels (now (s .entry)) k ⌝ }
-{
-    if !program::names::is_user_name(key_at(s, cells, labels, k)) {
-        return true;
-    }
-    is_repeated(s, cells, labels, k)
-}
-
+// A bad, reserved or repeated name. The names passed are marked, each at its number.
 fn bad_names(s: &[u8]) -> bool
     requires { ⌜ badTrailer (now s) ≡ false ⌝ }
     ensures { λ r. ⌜ r ≡ anyBelow (labelCount (now (s .entry)) + variableCount (now (s .entry))) (badName (now (s .entry))) ⌝ }
@@ -288,11 +307,18 @@ fn bad_names(s: &[u8]) -> bool
     let cells = crate::cell_count(s);
     let labels = crate::label_count(s);
     let names = labels + crate::variable_count(s);
+    let mut seen = [false; KEYS];
     let mut k: u16 = 0;
     while k < names {
-        if bad_name(s, cells, labels, k) {
+        let key = key_at(s, cells, labels, k);
+        if !program::names::is_user_name(key) {
             return true;
         }
+        let i = key as usize;
+        if seen[i] {
+            return true;
+        }
+        seen[i] = true;
         k += 1;
     }
     false

@@ -1,4 +1,5 @@
--- `check::bad_names` meets its contract: the loop searches the records, and a bad key is a bad name. The invariant: none was found before.
+-- `check::bad_names` meets its contract: the loop searches the records, and a bad key is a bad name. The invariant: none was found before,
+-- and the names passed are marked.
 -- Assumes nothing.
 use mathlib.Core.Bool.{false}
 use mathlib.Core.Path.{_≡_, ap₂, _∙_}
@@ -6,18 +7,20 @@ use Prim.Native.Nat.{ℕ, _+_, _≤_, _-_}
 use native.Mathlib.Omega.{arith}
 use borrow.Author.Needs.{needs}
 use Rattle.numbers.specs.Tests.{anyBelow}
-use Rattle.image.specs.Code.{badKey}
+use Rattle.image.specs.Code.{Marked, keyOf, badKey}
 use Rattle.image.specs.Check.{badName}
 use Rattle.image.proofs.Any.{none-yet, one-more, that-is, all-without}
+use Rattle.image.proofs.Marks.{unmarked, marked-more, not-users, key-inside, users}
 use Rattle.image.proofs.Records.{fitting, bad-key}
 use Rattle.image.proofs.check.bad_names.Statement.{statement}
 use Rattle.image.proofs.check.bad_names.Tie as tie
 
 abbrev Inv-loop : tie.InvT-loop
-Inv-loop s cells labels names k₀ k = (k ≤ names) × (anyBelow k (badName s) ≡ false)
+Inv-loop s cells labels names seen₀ k₀ seen k =
+    (k ≤ names) × (anyBelow k (badName s) ≡ false) × Marked 23296 (keyOf cells labels s) k seen
 
 abbrev μ-loop : tie.MeasureT-loop
-μ-loop s cells labels names k₀ k = names - k
+μ-loop s cells labels names seen₀ k₀ seen k = names - k
 
 cell-count-requires : tie.Need-cell-count-requires Inv-loop μ-loop
 cell-count-requires c κs = search needs
@@ -36,41 +39,76 @@ add-names : tie.Need-add-names Inv-loop μ-loop
 add-names c = omega (arith, few c)
 
 loop-holds : tie.Need-loop-holds Inv-loop μ-loop
-loop-holds c = (omega arith, none-yet _)
+loop-holds c = (omega arith, none-yet _, unmarked 23296 _)
 
-bad-name-requires : tie.Need-bad-name-requires Inv-loop μ-loop
-bad-name-requires c κs = search needs
+key-at-requires : tie.Need-key-at-requires Inv-loop μ-loop
+key-at-requires c κs = search needs
+
+is-user-name-requires : tie.Need-is-user-name-requires Inv-loop μ-loop
+is-user-name-requires c κs = search needs
 
 -- what a turn looks at
-looked : (c : tie.After-bad-name Inv-loop μ-loop) → c .bad-name .result ≡ badName (c .before .before .before .before .before .before .before .args .s .now) (c .before .before .loop .k)
+looked : (c : tie.After-is-user-name Inv-loop μ-loop)
+    → let l = c .before .before .before in
+    let v = l .before in
+    badKey (v .before .before .cell-count .result) (v .before .label-count .result) (v .before .before .before .before .args .s .now) (l .loop .k)
+    ≡ badName (v .before .before .before .before .args .s .now) (l .loop .k)
 looked c =
-    let k = c .before .before .loop .k in
-    let v = c .before .before .before in
+    let l = c .before .before .before in
+    let v = l .before in
     let n = v .before .before in
     let st = n .before .before in
     let s = st .args .s .now in
-    let l = v .before .label-count .ensures in
-    let e = v .variable-count .ensures in
-    c .bad-name .ensures
-    ∙ ap₂ (λ (cells labels : ℕ). badKey cells labels s k) (n .cell-count .ensures) l
-    ∙ bad-key s (λ i. n .before .shared-slice-known .given i .fits) (fitting s (st .pre)) k (omega (arith, c .before .loop-test .taken))
+    let el = v .before .label-count .ensures in
+    let ev = v .variable-count .ensures in
+    ap₂ (λ (cells labels : ℕ). badKey cells labels s (l .loop .k)) (n .cell-count .ensures) el
+    ∙ bad-key s (λ i. n .before .shared-slice-known .given i .fits) (fitting s (st .pre)) (l .loop .k) (omega (arith, c .before .before .loop-test .taken))
 
 returns : tie.Need-returns Inv-loop μ-loop
 returns c =
-    let v = c .before .before .before .before in
-    that-is _ (c .before .before .before .loop .k) (ap₂ (λ (l v : ℕ). l + v) (v .before .label-count .ensures) (v .variable-count .ensures)) (c .before .before .loop-test .taken) (looked (c .before)) (c .if1 .taken)
+    let u = c .before in
+    let l = u .before .before .before in
+    let v = l .before in
+    that-is _ (l .loop .k) (ap₂ (λ (l v : ℕ). l + v) (v .before .label-count .ensures) (v .variable-count .ensures)) (u .before .before .loop-test .taken)
+    (looked u) (not-users _ _ _ _ (u .before .key-at .ensures) (u .is-user-name .ensures) (c .if1 .taken))
+
+cast-i : tie.Need-cast-i Inv-loop μ-loop
+cast-i c = search needs
+
+array-read-if2 : tie.Need-array-read-if2 Inv-loop μ-loop
+array-read-if2 c = let u = c .before in key-inside _ _ _ _ (u .before .key-at .ensures) (u .is-user-name .ensures) (c .if1 .left)
+
+returns-2 : tie.Need-returns-2 Inv-loop μ-loop
+returns-2 c =
+    let u = c .before .before in
+    let l = u .before .before .before in
+    let v = l .before in
+    that-is _ (l .loop .k) (ap₂ (λ (l v : ℕ). l + v) (v .before .label-count .ensures) (v .variable-count .ensures)) (u .before .before .loop-test .taken)
+    (looked u) (users _ _ _ _ (u .before .key-at .ensures) (u .is-user-name .ensures) (c .before .if1 .left) (l .loop .inv .2) (c .if2 .taken))
+
+array-write-seen : tie.Need-array-write-seen Inv-loop μ-loop
+array-write-seen c =
+    let u = c .before .before in
+    key-inside _ _ _ _ (u .before .key-at .ensures) (u .is-user-name .ensures) (c .before .if1 .left)
 
 add-k : tie.Need-add-k Inv-loop μ-loop
-add-k c = omega (arith, few (c .before .before .before .before))
+add-k c = omega (arith, few (c .before .before .before .before .before .before))
 
 loop-less : tie.Need-loop-less Inv-loop μ-loop
 loop-less c = omega arith
 
 loop-again : tie.Need-loop-again Inv-loop μ-loop
-loop-again c = (omega arith, one-more _ (c .before .before .before .loop .k) (c .before .before .before .loop .inv .1) (looked (c .before)) (c .if1 .left))
+loop-again c =
+    let u = c .before .before in
+    let l = u .before .before .before in (
+      omega arith,
+      one-more _ (l .loop .k) (l .loop .inv .1) (looked u)
+          (users _ _ _ _ (u .before .key-at .ensures) (u .is-user-name .ensures) (c .before .if1 .left) (l .loop .inv .2) (c .if2 .left)),
+      marked-more 23296 _ (l .loop .k) (l .loop .inv .2) (u .before .key-at .ensures),
+    )
 
-returns-2 : tie.Need-returns-2 Inv-loop μ-loop
-returns-2 c =
+returns-3 : tie.Need-returns-3 Inv-loop μ-loop
+returns-3 c =
     let v = c .before .before in
     all-without _ (c .before .loop .k) (ap₂ (λ (l v : ℕ). l + v) (v .before .label-count .ensures) (v .variable-count .ensures)) (c .before .loop .inv .0) (c .loop-test .left) (c .before .loop .inv .1)
 
@@ -85,9 +123,14 @@ bad-names-spec =
     variable-count-requires
     add-names
     loop-holds
-    bad-name-requires
+    key-at-requires
+    is-user-name-requires
     returns
+    cast-i
+    array-read-if2
+    returns-2
+    array-write-seen
     add-k
     loop-less
     loop-again
-    returns-2)
+    returns-3)

@@ -59,9 +59,6 @@ returns-5 c =
       told-false (c .before .good-operand2 .ensures) (c .if5 .taken),
     )
 
-good-target-requires : tie.Need-good-target-requires
-good-target-requires c κs = search needs
-
 returns-6 : tie.Need-returns-6
 unfolding fitsOf
 returns-6 c =
@@ -75,7 +72,23 @@ returns-6 c =
       told-true (n .good-selector .ensures) (l .before .before .if3 .left),
       told-true (l .good-operand .ensures) (r .before .before .if4 .left),
       told-true (r .good-operand2 .ensures) (c .before .before .if5 .left),
-      c .before .good-target .ensures,
+      c .before .if6 .taken,
+    )
+
+returns-7 : tie.Need-returns-7
+unfolding fitsOf
+returns-7 c =
+    let r = c .before .before .before .before in
+    let l = r .before .before .before in
+    let n = l .before .before .before in
+    let w = n .before .before in
+    rw (
+      eq-eqb _ _ (w .before .if1 .left),
+      told-true (w .good-written .ensures) (n .before .if2 .left),
+      told-true (n .good-selector .ensures) (l .before .before .if3 .left),
+      told-true (l .good-operand .ensures) (r .before .before .if4 .left),
+      told-true (r .good-operand2 .ensures) (c .before .before .before .if5 .left),
+      c .before .before .if6 .left,
     )
 
 pub fits-spec : {M : Type 1} → statement M
@@ -91,5 +104,5 @@ fits-spec =
     returns-4
     good-operand-requires-2
     returns-5
-    good-target-requires
-    returns-6)
+    returns-6
+    returns-7)

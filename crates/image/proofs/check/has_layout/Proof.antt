@@ -1,7 +1,7 @@
 -- `check::has_layout` meets its contract: the loop searches the table. Its invariant: the rows from here on give what all give.
 -- Assumes nothing.
-use mathlib.Core.Path.{_≡_, refl, ap, _∙_}
-use Prim.Native.Nat.{ℕ, _≤_, _-_}
+use mathlib.Core.Path.{_≡_, refl, _∙_}
+use Prim.Native.Nat.{_≤_, _-_}
 use native.Mathlib.Omega.{arith}
 use borrow.Author.Needs.{needs}
 use lib.ListN.{drop}
@@ -14,13 +14,10 @@ use Rattle.image.proofs.check.has_layout.Statement.{statement}
 use Rattle.image.proofs.check.has_layout.Tie as tie
 
 abbrev Inv-loop : tie.InvT-loop
-Inv-loop s f variables table i₀ i = (i ≤ 17) × (anyOf (λ (u : Layout). fitsOf s variables f (useOf u)) (drop i table) ≡ anyOf (fitsOf s variables f) layouts)
+Inv-loop variables aimed f table i₀ i = (i ≤ 17) × (anyOf (λ (u : Layout). fitsOf variables aimed f (useOf u)) (drop i table) ≡ anyOf (fitsOf variables aimed f) layouts)
 
 abbrev μ-loop : tie.MeasureT-loop
-μ-loop s f variables table i₀ i = 17 - i
-
-variable-count-requires : tie.Need-variable-count-requires Inv-loop μ-loop
-variable-count-requires c κs = search needs
+μ-loop variables aimed f table i₀ i = 17 - i
 
 loop-holds : tie.Need-loop-holds Inv-loop μ-loop
 unfolding anyOf layouts
@@ -36,7 +33,7 @@ fits-requires : tie.Need-fits-requires Inv-loop μ-loop
 fits-requires c κs = search needs
 
 returns : tie.Need-returns Inv-loop μ-loop
-returns c = at-one _ _ (c .before .before .before .before .loop .i) _ (c .before .before .before .loop-test .taken) (c .before .fits2 .ensures) (c .if1 .taken) ∙ c .before .before .before .before .loop .inv .1 ∙ ap (λ (v : ℕ). anyOf (fitsOf (c .before .before .before .before .before .before .before .args .s .now) v (c .before .before .before .before .before .before .before .args .f)) layouts) (c .before .before .before .before .before .variable-count .ensures)
+returns c = at-one _ _ (c .before .before .before .before .loop .i) _ (c .before .before .before .loop-test .taken) (c .before .fits2 .ensures) (c .if1 .taken) ∙ c .before .before .before .before .loop .inv .1
 
 add-i : tie.Need-add-i Inv-loop μ-loop
 add-i c = omega arith
@@ -51,7 +48,7 @@ returns-2 : tie.Need-returns-2 Inv-loop μ-loop
 unfolding anyOf
 returns-2 c =
     let e : c .before .loop .i ≡ 17 = omega arith in
-    (rw e at (c .before .loop .inv .1)) ∙ ap (λ (v : ℕ). anyOf (fitsOf (c .before .before .before .before .args .s .now) v (c .before .before .before .before .args .f)) layouts) (c .before .before .variable-count .ensures)
+    rw e at (c .before .loop .inv .1)
 
 pub has-layout-spec : {M : Type 1} → statement M
 has-layout-spec =
@@ -59,7 +56,6 @@ has-layout-spec =
     (tie.spec
     Inv-loop
     μ-loop
-    variable-count-requires
     loop-holds
     mul-fits
     array-copy-out-fits
