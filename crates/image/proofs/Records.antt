@@ -2,13 +2,15 @@
 -- Assumes nothing.
 use mathlib.Core.Path.{_≡_, refl, sym, subst, ap, ap₂, _∙_}
 use mathlib.Core.Bool.{Bool, true, false, cond, _&&_, _||_, not}
-use mathlib.Core.List.{List}
-use Prim.Native.Nat.{ℕ, _+_, _*_, _/_, _%_, _^_, _≤_, _<_}
+use mathlib.Core.List.{List, _∷_, map}
+use Prim.Native.Nat.{ℕ, suc, _+_, _*_, _/_, _%_, _^_, _≤_, _<_}
+use native.Mathlib.Numerals.{add-one}
 use native.Mathlib.Omega.{arith}
 use native.Mathlib.Decide.{decLt}
 use borrow.Author.Tests.{lt-ltb, le-ltb, ltb-false, eqb-true, not-false}
 use lib.Dec.{T, eqb, eqb-refl, eqb→eq}
-use lib.ListN.{length}
+use lib.ListN.{length, getD, drop, length-map, List·getD-map}
+use lib.Seq.{drop-cons}
 use Rattle.numbers.specs.Bytes.{bytes, number, field}
 use Rattle.numbers.specs.Tests.{eqList, anyOf}
 use Rattle.numbers.proofs.Laws.{Bytes, there-and-back, bytes-field, field-below}
@@ -17,8 +19,9 @@ use Rattle.program.specs.Variables.{mostCells, mostLabels, mostVariables}
 use Rattle.program.proofs.Keys.{same-test, eqList-refl, eqList-eq, user-bytes}
 use Rattle.image.specs.Layout.{imageLength, cellCount, labelCount, variableCount, firstLabelPlace, wholeLength, labelPlace, variablePlace, nameAt}
 use Rattle.image.specs.Check.{badTrailer, Use, layouts, goodWritten, goodSelector, goodOperand, goodTarget, fits, recordPlace, recordName, badName, badCell}
-use Rattle.image.specs.Code.{recordPlaceOf, keyOf, repeatedKey, badKey, fieldsAt, fitsOf}
+use Rattle.image.specs.Code.{recordPlaceOf, keyOf, repeatedKey, badKey, useOf, fieldsAt, fitsOf}
 use Rattle.image.specs.declared.check.Fields.{Fields}
+use Rattle.image.specs.declared.check.Layout.{Layout}
 use Rattle.image.proofs.Any.{same-search}
 
 -- A trailer that fits the image and the limits.
@@ -87,6 +90,13 @@ module _ (s : List ℕ) (byte : Bytes s) (fit : Fitting s) where
       ap₂ (λ (u v : Bool). not u || v)
       (sym (ap userName (name-key k h) ∙ user-bytes (keyAt k) (key-below k)))
       (same-search k (λ j l. sym (ap₂ eqList (name-key j (omega arith)) (name-key k h) ∙ eq-bytes 2 (keyAt j) (keyAt k) (key-below j) (key-below k))))
+
+-- The rows of the code's table from the row i on are those of the layouts.
+pub row-split : (table : List Layout) (i : ℕ) (d : Layout) → i < length table → map useOf table ≡ layouts → drop i layouts ≡ useOf (getD table i d) ∷ drop (i + 1) layouts
+row-split table i d h e =
+    rw (← e, add-one i)
+    (drop-cons (map useOf table) i (useOf d) (rw (length-map table useOf) h)
+    ∙ ap (λ (u : Use). u ∷ drop (suc i) (map useOf table)) (List·getD-map useOf table i d))
 
 -- A test behind that of two numbers may take either.
 either-number : (m n : ℕ) (p : ℕ → Bool) → (eqb m n && p m) ≡ (eqb m n && p n)

@@ -83,7 +83,7 @@ fieldsAt s k =
       zeros = field 2 (16 * k + 14) s;
     }
 
-abbrev pub useOf : Layout → Use
+unfoldable pub useOf : Layout → Use
 useOf u = uses (u .0) (u .1) (u .2) (u .3) (u .4) (u .5)
 
 -- Whether the target is good where one is used was found before.

@@ -1,8 +1,9 @@
 // What makes an image bad: one test for each row of the refusals.
 ghost use mathlib.Core.Path.{_≡_};
 ghost use mathlib.Core.Bool.{true, false};
-ghost use Prim.Native.Nat.{_+_};
-ghost use lib.ListN.{set};
+ghost use mathlib.Core.List.{_∷_};
+ghost use Prim.Native.Nat.{_+_, _<_};
+ghost use lib.ListN.{drop, set};
 ghost use Rattle.numbers.specs.Tests.{anyOf, anyBelow};
 ghost use Rattle.image.specs.Layout.{labelCount, variableCount, labelTarget};
 ghost use Rattle.image.specs.Check.{badLength, badEdition, badTrailer, layouts, goodWritten, goodSelector, goodOperand, goodTarget, badCell, badCells, badName, badTarget, badStart, badRecords, checked};
@@ -239,13 +240,21 @@ fn fits(variables: u16, aimed: bool, f: Fields, u: Layout) -> bool
     (f.target == 0) & (f.zeros == 0)
 }
 
+// A row of the table.
+fn row(i: usize) -> Layout
+    requires { ⌜ i < 17 ⌝ }
+    ensures { λ r. ⌜ drop i layouts ≡ useOf r ∷ drop (i + 1) layouts ⌝ }
+{
+    let table = LAYOUTS;
+    table[i]
+}
+
 fn has_layout(variables: u16, aimed: bool, f: Fields) -> bool
     ensures { λ r. ⌜ r ≡ anyOf (fitsOf variables aimed f) layouts ⌝ }
 {
-    let table = LAYOUTS;
     let mut i: usize = 0;
     while i < ROWS {
-        if fits(variables, aimed, f, table[i]) {
+        if fits(variables, aimed, f, row(i)) {
             return true;
         }
         i += 1;

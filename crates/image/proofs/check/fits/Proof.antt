@@ -2,27 +2,27 @@
 -- Assumes nothing.
 use borrow.Author.Tests.{eq-eqb, ne-eqb}
 use borrow.Author.Needs.{needs}
-use Rattle.image.specs.Code.{fitsOf}
+use Rattle.image.specs.Code.{useOf, fitsOf}
 use Rattle.image.proofs.Any.{told-true, told-false}
 use Rattle.image.proofs.check.fits.Statement.{statement}
 use Rattle.image.proofs.check.fits.Tie as tie
 
 returns : tie.Need-returns
-unfolding fitsOf
+unfolding fitsOf useOf
 returns c = rw (ne-eqb _ _ (c .if1 .taken))
 
 good-written-requires : tie.Need-good-written-requires
 good-written-requires c κs = search needs
 
 returns-2 : tie.Need-returns-2
-unfolding fitsOf
+unfolding fitsOf useOf
 returns-2 c = rw (eq-eqb _ _ (c .before .before .if1 .left), told-false (c .before .good-written .ensures) (c .if2 .taken))
 
 good-selector-requires : tie.Need-good-selector-requires
 good-selector-requires c κs = search needs
 
 returns-3 : tie.Need-returns-3
-unfolding fitsOf
+unfolding fitsOf useOf
 returns-3 c =
     let w = c .before .before .before in
     rw (eq-eqb _ _ (w .before .if1 .left), told-true (w .good-written .ensures) (c .before .before .if2 .left), told-false (c .before .good-selector .ensures) (c .if3 .taken))
@@ -31,7 +31,7 @@ good-operand-requires : tie.Need-good-operand-requires
 good-operand-requires c κs = search needs
 
 returns-4 : tie.Need-returns-4
-unfolding fitsOf
+unfolding fitsOf useOf
 returns-4 c =
     let n = c .before .before .before .before in
     let w = n .before .before in
@@ -46,7 +46,7 @@ good-operand-requires-2 : tie.Need-good-operand-requires-2
 good-operand-requires-2 c κs = search needs
 
 returns-5 : tie.Need-returns-5
-unfolding fitsOf
+unfolding fitsOf useOf
 returns-5 c =
     let l = c .before .before .before .before in
     let n = l .before .before .before in
@@ -60,7 +60,7 @@ returns-5 c =
     )
 
 returns-6 : tie.Need-returns-6
-unfolding fitsOf
+unfolding fitsOf useOf
 returns-6 c =
     let r = c .before .before .before in
     let l = r .before .before .before in
@@ -76,7 +76,7 @@ returns-6 c =
     )
 
 returns-7 : tie.Need-returns-7
-unfolding fitsOf
+unfolding fitsOf useOf
 returns-7 c =
     let r = c .before .before .before .before in
     let l = r .before .before .before in

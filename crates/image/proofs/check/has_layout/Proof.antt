@@ -6,34 +6,31 @@ use native.Mathlib.Omega.{arith}
 use borrow.Author.Needs.{needs}
 use lib.ListN.{drop}
 use Rattle.numbers.specs.Tests.{anyOf}
-use Rattle.image.specs.declared.check.Layout.{Layout}
-use Rattle.image.specs.Code.{fitsOf, useOf}
+use Rattle.image.specs.Code.{fitsOf}
 use Rattle.image.specs.Check.{layouts}
 use Rattle.image.proofs.Any.{past-one, at-one}
 use Rattle.image.proofs.check.has_layout.Statement.{statement}
 use Rattle.image.proofs.check.has_layout.Tie as tie
 
 abbrev Inv-loop : tie.InvT-loop
-Inv-loop variables aimed f table i₀ i = (i ≤ 17) × (anyOf (λ (u : Layout). fitsOf variables aimed f (useOf u)) (drop i table) ≡ anyOf (fitsOf variables aimed f) layouts)
+Inv-loop variables aimed f i₀ i = (i ≤ 17) × (anyOf (fitsOf variables aimed f) (drop i layouts) ≡ anyOf (fitsOf variables aimed f) layouts)
 
 abbrev μ-loop : tie.MeasureT-loop
-μ-loop variables aimed f table i₀ i = 17 - i
+μ-loop variables aimed f i₀ i = 17 - i
 
 loop-holds : tie.Need-loop-holds Inv-loop μ-loop
-unfolding anyOf layouts
 loop-holds c = (omega arith, refl)
 
-mul-fits : tie.Need-mul-fits Inv-loop μ-loop
-mul-fits c = omega arith
-
-array-copy-out-fits : tie.Need-array-copy-out-fits Inv-loop μ-loop
-array-copy-out-fits c = omega arith
+row-requires : tie.Need-row-requires Inv-loop μ-loop
+row-requires c κs = search needs
 
 fits-requires : tie.Need-fits-requires Inv-loop μ-loop
 fits-requires c κs = search needs
 
 returns : tie.Need-returns Inv-loop μ-loop
-returns c = at-one _ _ (c .before .before .before .before .loop .i) _ (c .before .before .before .loop-test .taken) (c .before .fits2 .ensures) (c .if1 .taken) ∙ c .before .before .before .before .loop .inv .1
+returns c =
+    let r = c .before .before in
+    at-one _ (r .row .ensures) (c .before .fits2 .ensures) (c .if1 .taken) ∙ r .before .before .loop .inv .1
 
 add-i : tie.Need-add-i Inv-loop μ-loop
 add-i c = omega arith
@@ -42,10 +39,12 @@ loop-less : tie.Need-loop-less Inv-loop μ-loop
 loop-less c = omega arith
 
 loop-again : tie.Need-loop-again Inv-loop μ-loop
-loop-again c = (omega arith, past-one _ _ (c .before .before .before .before .loop .i) _ (c .before .before .before .loop-test .taken) (c .before .fits2 .ensures) (c .if1 .left) ∙ c .before .before .before .before .loop .inv .1)
+loop-again c =
+    let r = c .before .before in
+    (omega arith, past-one _ (r .row .ensures) (c .before .fits2 .ensures) (c .if1 .left) ∙ r .before .before .loop .inv .1)
 
 returns-2 : tie.Need-returns-2 Inv-loop μ-loop
-unfolding anyOf
+unfolding anyOf layouts
 returns-2 c =
     let e : c .before .loop .i ≡ 17 = omega arith in
     rw e at (c .before .loop .inv .1)
@@ -57,8 +56,7 @@ has-layout-spec =
     Inv-loop
     μ-loop
     loop-holds
-    mul-fits
-    array-copy-out-fits
+    row-requires
     fits-requires
     returns
     add-i
