@@ -9,7 +9,7 @@ use native.Mathlib.Omega.{arith}
 use native.Mathlib.Decide.{decLt}
 use borrow.Author.Tests.{lt-ltb, le-ltb, ltb-false, eqb-true, not-false}
 use lib.Dec.{T, eqb, eqb-refl, eqb→eq}
-use lib.ListN.{length, getD, drop, length-map, List·getD-map}
+use lib.ListN.{length, getD, drop, List·getD-map}
 use lib.Seq.{drop-cons}
 use Rattle.numbers.specs.Bytes.{bytes, number, field}
 use Rattle.numbers.specs.Tests.{eqList, anyOf}
@@ -18,10 +18,9 @@ use Rattle.program.specs.Names.{userName}
 use Rattle.program.specs.Variables.{mostCells, mostLabels, mostVariables}
 use Rattle.program.proofs.Keys.{same-test, eqList-refl, eqList-eq, user-bytes}
 use Rattle.image.specs.Layout.{imageLength, cellCount, labelCount, variableCount, firstLabelPlace, wholeLength, labelPlace, variablePlace, nameAt}
-use Rattle.image.specs.Check.{badTrailer, Use, layouts, goodWritten, goodSelector, goodOperand, goodTarget, fits, recordPlace, recordName, badName, badCell}
-use Rattle.image.specs.Code.{recordPlaceOf, keyOf, repeatedKey, badKey, useOf, fieldsAt, fitsOf}
+use Rattle.image.specs.Check.{badTrailer, Use, uses, layouts, goodWritten, goodSelector, goodOperand, goodTarget, fits, recordPlace, recordName, badName, badCell}
+use Rattle.image.specs.Code.{recordPlaceOf, keyOf, repeatedKey, badKey, fieldsAt, fitsOf}
 use Rattle.image.specs.declared.check.Fields.{Fields}
-use Rattle.image.specs.declared.check.Layout.{Layout}
 use Rattle.image.proofs.Any.{same-search}
 
 -- A trailer that fits the image and the limits.
@@ -91,12 +90,19 @@ module _ (s : List ℕ) (byte : Bytes s) (fit : Fitting s) where
       (sym (ap userName (name-key k h) ∙ user-bytes (keyAt k) (key-below k)))
       (same-search k (λ j l. sym (ap₂ eqList (name-key j (omega arith)) (name-key k h) ∙ eq-bytes 2 (keyAt j) (keyAt k) (key-below j) (key-below k))))
 
--- The rows of the code's table from the row i on are those of the layouts.
-pub row-split : (table : List Layout) (i : ℕ) (d : Layout) → i < length table → map useOf table ≡ layouts → drop i layouts ≡ useOf (getD table i d) ∷ drop (i + 1) layouts
-row-split table i d h e =
-    rw (← e, add-one i)
-    (drop-cons (map useOf table) i (useOf d) (rw (length-map table useOf) h)
-    ∙ ap (λ (u : Use). u ∷ drop (suc i) (map useOf table)) (List·getD-map useOf table i d))
+-- A layout as a number, as the code's table has it, and back.
+abbrev pub sumOf : Use → ℕ
+sumOf u =
+    u .operation
+    + (cond (u .writes) 16 0 + (cond (u .left) 32 0 + (cond (u .right) 64 0 + (cond (u .target) 128 0 + 256 * u .selectors))))
+
+abbrev pub ofSum : ℕ → Use
+ofSum n = uses (n % 16) (eqb (n / 16 % 2) 1) (n / 256 % 256) (eqb (n / 32 % 2) 1) (eqb (n / 64 % 2) 1) (eqb (n / 128 % 2) 1)
+
+-- The layouts from the row i on.
+pub row-split : (i : ℕ) → i < 17 → drop i layouts ≡ ofSum (getD (map sumOf layouts) i 0) ∷ drop (i + 1) layouts
+unfolding layouts
+row-split i h = rw (add-one i) (drop-cons (map ofSum (map sumOf layouts)) i (ofSum 0) h ∙ ap (λ (u : Use). u ∷ drop (suc i) layouts) (List·getD-map ofSum (map sumOf layouts) i 0))
 
 -- A test behind that of two numbers may take either.
 either-number : (m n : ℕ) (p : ℕ → Bool) → (eqb m n && p m) ≡ (eqb m n && p n)
@@ -121,11 +127,11 @@ module _ (s : List ℕ) (k : ℕ) where
   layout-fits u =
       rw (aimed-target s (field 1 (16 * k) s) (field 2 (16 * k + 12) s) (u .target))
       (either-number (field 1 (16 * k) s) (u .operation) (λ o.
-        goodWritten (variableCount s) (u .writes) (field 1 (16 * k + 1) s)
-        && (goodSelector (u .selectors) (field 1 (16 * k + 2) s)
-        && (goodOperand (variableCount s) (u .left) (field 1 (16 * k + 3) s % 4) (field 4 (16 * k + 4) s)
-        && (goodOperand (variableCount s) (u .right) (field 1 (16 * k + 3) s / 4) (field 4 (16 * k + 8) s)
-        && (goodTarget s o (u .target) (field 2 (16 * k + 12) s) && eqb (field 2 (16 * k + 14) s) 0))))))
+      goodWritten (variableCount s) (u .writes) (field 1 (16 * k + 1) s)
+      && (goodSelector (u .selectors) (field 1 (16 * k + 2) s)
+      && (goodOperand (variableCount s) (u .left) (field 1 (16 * k + 3) s % 4) (field 4 (16 * k + 4) s)
+      && (goodOperand (variableCount s) (u .right) (field 1 (16 * k + 3) s / 4) (field 4 (16 * k + 8) s)
+      && (goodTarget s o (u .target) (field 2 (16 * k + 12) s) && eqb (field 2 (16 * k + 14) s) 0))))))
 
   pub layouts-fit : anyOf (fitsOf (variableCount s) aimed (fieldsAt s k)) layouts ≡ anyOf (fits s (16 * k)) layouts
   unfolding anyOf layouts

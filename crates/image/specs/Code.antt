@@ -84,7 +84,7 @@ fieldsAt s k =
     }
 
 unfoldable pub useOf : Layout → Use
-useOf u = uses (u .0) (u .1) (u .2) (u .3) (u .4) (u .5)
+useOf u = uses (u .operation) (u .writes) (u .last) (u .left) (u .right) (u .target)
 
 -- Whether the target is good where one is used was found before.
 unfoldable pub fitsOf : ℕ → Bool → Fields → Use → Bool

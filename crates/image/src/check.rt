@@ -45,28 +45,50 @@ struct Fields {
 
 // The fields that an operation may use together: the operation; whether it writes a variable; its last operator or
 // comparison, 0 where it has none; whether it has a left operand, a right operand and a target.
-struct Layout(u8, bool, u8, bool, bool, bool);
+struct Layout {
+    operation: u8,
+    writes: bool,
+    last: u8,
+    left: bool,
+    right: bool,
+    target: bool,
+}
+
+// A layout as a number: its operation, and one of these for each thing that it has.
+const WRITES: u16 = 16;
+
+const HAS_LEFT: u16 = 32;
+
+const HAS_RIGHT: u16 = 64;
+
+const HAS_TARGET: u16 = 128;
+
+const LAST: u16 = 256;
+
+const OPERATORS: u16 = LAST * (Cell::XOR as u16);
+
+const COMPARISONS: u16 = LAST * (Cell::AT_LEAST as u16);
 
 const ROWS: usize = 17;
 
-const LAYOUTS: [Layout; ROWS] = [
-    Layout(Cell::SET, true, 0, true, false, false),
-    Layout(Cell::SET_WITH, true, Cell::XOR, true, true, false),
-    Layout(Cell::IC, true, 0, false, false, false),
-    Layout(Cell::DC, true, 0, false, false, false),
-    Layout(Cell::BR, false, 0, false, false, true),
-    Layout(Cell::BR, false, Cell::AT_LEAST, true, true, true),
-    Layout(Cell::CL, false, 0, false, false, true),
-    Layout(Cell::CL, false, Cell::AT_LEAST, true, true, true),
-    Layout(Cell::RT, false, 0, false, false, false),
-    Layout(Cell::E, false, 0, false, false, false),
-    Layout(Cell::H, false, 0, false, false, false),
-    Layout(Cell::H, false, 0, true, false, false),
-    Layout(Cell::OE, false, 0, false, false, true),
-    Layout(Cell::MA, false, 0, true, false, false),
-    Layout(Cell::MR, false, 0, true, false, false),
-    Layout(Cell::SL, false, 0, true, false, false),
-    Layout(Cell::PR, false, 0, true, false, false),
+const LAYOUTS: [u16; ROWS] = [
+    (Cell::SET as u16) + WRITES + HAS_LEFT,
+    (Cell::SET_WITH as u16) + WRITES + OPERATORS + HAS_LEFT + HAS_RIGHT,
+    (Cell::IC as u16) + WRITES,
+    (Cell::DC as u16) + WRITES,
+    (Cell::BR as u16) + HAS_TARGET,
+    (Cell::BR as u16) + COMPARISONS + HAS_LEFT + HAS_RIGHT + HAS_TARGET,
+    (Cell::CL as u16) + HAS_TARGET,
+    (Cell::CL as u16) + COMPARISONS + HAS_LEFT + HAS_RIGHT + HAS_TARGET,
+    Cell::RT as u16,
+    Cell::E as u16,
+    Cell::H as u16,
+    (Cell::H as u16) + HAS_LEFT,
+    (Cell::OE as u16) + HAS_TARGET,
+    (Cell::MA as u16) + HAS_LEFT,
+    (Cell::MR as u16) + HAS_LEFT,
+    (Cell::SL as u16) + HAS_LEFT,
+    (Cell::PR as u16) + HAS_LEFT,
 ];
 
 fn bad_length(s: &[u8]) -> bool
@@ -219,22 +241,22 @@ fn fields_at(s: &[u8], k: u16) -> Fields
 fn fits(variables: u16, aimed: bool, f: Fields, u: Layout) -> bool
     ensures { λ r. ⌜ r ≡ fitsOf variables aimed f (useOf u) ⌝ }
 {
-    if f.operation != u.0 {
+    if f.operation != u.operation {
         return false;
     }
-    if !good_written(variables, u.1, f.written) {
+    if !good_written(variables, u.writes, f.written) {
         return false;
     }
-    if !good_selector(u.2, f.selector) {
+    if !good_selector(u.last, f.selector) {
         return false;
     }
-    if !good_operand(variables, u.3, f.shapes % crate::RIGHT_SHAPE, f.left) {
+    if !good_operand(variables, u.left, f.shapes % crate::RIGHT_SHAPE, f.left) {
         return false;
     }
-    if !good_operand(variables, u.4, f.shapes / crate::RIGHT_SHAPE, f.right) {
+    if !good_operand(variables, u.right, f.shapes / crate::RIGHT_SHAPE, f.right) {
         return false;
     }
-    if u.5 {
+    if u.target {
         return aimed & (f.zeros == 0);
     }
     (f.target == 0) & (f.zeros == 0)
@@ -245,8 +267,15 @@ fn row(i: usize) -> Layout
     requires { ⌜ i < 17 ⌝ }
     ensures { λ r. ⌜ drop i layouts ≡ useOf r ∷ drop (i + 1) layouts ⌝ }
 {
-    let table = LAYOUTS;
-    table[i]
+    let n = LAYOUTS[i];
+    Layout {
+        operation: (n % WRITES) as u8,
+        writes: n / WRITES % 2 == 1,
+        last: (n / LAST % LAST) as u8,
+        left: n / HAS_LEFT % 2 == 1,
+        right: n / HAS_RIGHT % 2 == 1,
+        target: n / HAS_TARGET % 2 == 1,
+    }
 }
 
 fn has_layout(variables: u16, aimed: bool, f: Fields) -> bool

@@ -1,28 +1,27 @@
--- `check::row` meets its contract: the code's table is that of the layouts.
+-- `check::row` meets its contract: the code's table is that of the layouts, as numbers.
 -- Assumes nothing.
-use mathlib.Core.Path.{refl}
-use mathlib.Core.List.{map}
 use borrow.Author.Needs.{needs}
-use Rattle.image.specs.Check.{Use, layouts}
+use Rattle.image.specs.Check.{layouts}
 use Rattle.image.specs.Code.{useOf}
-use Rattle.image.specs.declared.check.Layout.{Layout}
 use Rattle.image.proofs.Records.{row-split}
 use Rattle.image.proofs.check.row.Statement.{statement}
 use Rattle.image.proofs.check.row.Tie as tie
 
-mul-result : tie.Need-mul-result
-mul-result c = search needs
+mul-n : tie.Need-mul-n
+mul-n c = search needs
 
-array-copy-out-result : tie.Need-array-copy-out-result
-array-copy-out-result c = search needs
+array-read-n : tie.Need-array-read-n
+array-read-n c = search needs
 
--- A layout as a row of the code's table.
-abbrev rowOf : Use → Layout
-rowOf u = (u .operation, u .writes, u .selectors, u .left, u .right, u .target)
+cast-t8 : tie.Need-cast-t8
+cast-t8 c = search needs
+
+cast-t14 : tie.Need-cast-t14
+cast-t14 c = search needs
 
 returns : tie.Need-returns
 unfolding layouts useOf
-returns c = row-split (map rowOf layouts) (c .before .args .i) _ (c .before .pre) refl
+returns c = row-split (c .args .i) (c .pre)
 
 pub row-spec : {M : Type 1} → statement M
-row-spec = tie.close (tie.spec mul-result array-copy-out-result returns)
+row-spec = tie.close (tie.spec mul-n array-read-n cast-t8 cast-t14 returns)
