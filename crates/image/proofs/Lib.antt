@@ -1,5 +1,4 @@
 pub mod Laws
-pub mod Marks
 pub mod Any
 pub mod Records
 pub mod Back
