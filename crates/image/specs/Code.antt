@@ -1,4 +1,4 @@
--- How the code goes about an image: places by the counts, for a trailer that is read once; the start of a cell.
+-- How the code goes about an image: places by the counts, for a trailer that is read once; the halves of a cell.
 -- No demand reaches this; proofs/ tie it to Layout.
 -- Assumes nothing.
 use mathlib.Core.Bool.{Bool}
@@ -8,7 +8,7 @@ use lib.Dec.{eqb}
 use Rattle.numbers.specs.Bytes.{bytes, field}
 use Rattle.numbers.specs.Tests.{anyBelow}
 use Rattle.program.specs.declared.Cell.{Cell}
-use Rattle.image.specs.Layout.{shape, labelCount, labelTarget}
+use Rattle.image.specs.Layout.{shape, operandNumber, labelCount, labelTarget}
 
 -- Where a label record and a variable record stand, behind so many cells and labels.
 abbrev pub labelPlaceOf : ℕ → ℕ → ℕ
@@ -25,7 +25,10 @@ targetOf cells s k = field 2 (labelPlaceOf cells k + 2) s
 unfoldable pub labelled : List ℕ → ℕ → Bool
 labelled s target = anyBelow (labelCount s) (λ k. eqb (labelTarget s k) target)
 
--- The first four bytes of a cell.
-unfoldable pub headBytes : Cell → List ℕ
-headBytes c =
-    bytes 1 (c .operation) ++ (bytes 1 (c .written) ++ (bytes 1 (c .selector) ++ bytes 1 (shape (c .left) + 4 * shape (c .right))))
+-- The first eight bytes of a cell, and the other eight.
+unfoldable pub firstHalf : Cell → List ℕ
+firstHalf c =
+    bytes 1 (c .operation) ++ (bytes 1 (c .written) ++ (bytes 1 (c .selector) ++ (bytes 1 (shape (c .left) + 4 * shape (c .right)) ++ bytes 4 (operandNumber (c .left)))))
+
+unfoldable pub secondHalf : Cell → List ℕ
+secondHalf c = bytes 4 (operandNumber (c .right)) ++ (bytes 2 (c .target) ++ bytes 2 0)
