@@ -71,7 +71,7 @@ pub fn check(image: &[u8]) -> Checked
     ensures { λ r. ⌜ Checks (now (image .entry)) r ⌝ }
 {
     Checked {
-        number: image::checked(image),
+        number: checking::checked(image),
     }
 }
 
@@ -79,7 +79,7 @@ pub fn check(image: &[u8]) -> Checked
 pub fn run(image: &[u8], events: &[u8], budget: u64, records: &mut [u8]) -> Ran
     ensures { λ r. ⌜ Runs (now (image .entry)) (now (events .entry)) budget (now (records .entry)) r (now (records .exit)) ⌝ }
 {
-    let number = image::checked(image);
+    let number = checking::checked(image);
     if number != 0 {
         return answers::refused(number, 0);
     }

@@ -7,8 +7,6 @@ use Prim.Native.Nat.{ℕ, zero, suc, _+_, _≤_, _<_}
 use native.Mathlib.Numerals.{add-one}
 use native.Mathlib.Omega.{arith}
 use borrow.Author.Tests.{not-true, not-false}
-use lib.ListN.{length, getD, drop}
-use lib.Seq.{drop-cons}
 use Rattle.numbers.specs.Tests.{anyOf, anyBelow}
 use Rattle.numbers.proofs.Tests.{any-below}
 
@@ -41,12 +39,12 @@ unfolding anyBelow
 same-search zero f = refl
 same-search (suc n) f = rw (same-search n (λ k h. f k (omega arith)), f n (omega arith))
 
--- A search over a list from the element i on.
-module _ {A : Type 0} (p : A → Bool) (l : List A) (i : ℕ) (d : A) (h : i < length l) where
-  pub past-one : {r : Bool} → r ≡ p (getD l i d) → r ≡ false → anyOf p (drop (i + 1) l) ≡ anyOf p (drop i l)
+-- A search over a list whose first element was looked at.
+module _ {A : Type 0} (p : A → Bool) {l rest : List A} {x : A} (split : l ≡ x ∷ rest) where
+  pub past-one : {r : Bool} → r ≡ p x → r ≡ false → anyOf p rest ≡ anyOf p l
   unfolding anyOf
-  past-one e f = rw (add-one i, drop-cons l i d h, ← e, f)
+  past-one e f = rw (split, ← e, f)
 
-  pub at-one : {r : Bool} → r ≡ p (getD l i d) → r ≡ true → true ≡ anyOf p (drop i l)
+  pub at-one : {r : Bool} → r ≡ p x → r ≡ true → true ≡ anyOf p l
   unfolding anyOf
-  at-one e f = rw (drop-cons l i d h, ← e, f)
+  at-one e f = rw (split, ← e, f)

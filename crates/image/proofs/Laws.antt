@@ -1,9 +1,9 @@
 -- Laws of writing the parts of an image one behind the other, and of their lengths.
 -- Assumes nothing.
-use mathlib.Core.Path.{_≡_, _∙_}
-use mathlib.Core.List.{List, [], _∷_, _++_}
-use Prim.Native.Nat.{ℕ, suc, _+_, _*_, _≤_, _<_}
-use native.Mathlib.Nat.{add-zero, add-assoc, add-suc, suc-add}
+use mathlib.Core.Path.{_≡_, refl, _∙_}
+use mathlib.Core.List.{List, [], _∷_, _++_, append-assoc}
+use Prim.Native.Nat.{ℕ, zero, suc, _+_, _*_, _/_, _%_, _^_, _≤_, _<_}
+use native.Mathlib.Nat.{add-zero, zero-add, add-suc, suc-add, mul-comm, mul-assoc, pow-suc, div-lt-iff-lt-mul, zero-lt-suc}
 use native.Mathlib.Omega.{arith}
 use lib.ListN.{length, getD, set, length-append}
 use lib.Seq.{sets}
@@ -13,7 +13,7 @@ use Rattle.program.specs.declared.Cell.{Cell}
 use Rattle.program.specs.declared.Operand.{Operand}
 use Rattle.program.specs.declared.Operand.the-variants.{Nothing, Literal, Variable}
 use Rattle.image.specs.Layout.{shape, operandNumber, cellBytes, trailerBytes, trailerPlace, imageLength}
-use Rattle.image.specs.Code.{headBytes}
+use Rattle.image.specs.Code.{firstHalf, secondHalf}
 
 -- A field of one byte is that byte.
 pub field-one : (place : ℕ) (s : List ℕ) → field 1 place s ≡ getD s place 0
@@ -29,7 +29,23 @@ pub sets-append : (b : List ℕ) (at : ℕ) (xs ys : List ℕ) → sets b at (xs
 sets-append b at [] ys = rw add-zero
 sets-append b at (x ∷ xs) ys = sets-append (set b at x) (suc at) xs ys ∙ rw (suc-add, add-suc)
 
--- The same as what code leaves: a buffer that was stored to at the place behind.
+-- A byte is the same from the number's lowest eight digits.
+byte-mod : (n : ℕ) → bytes 1 (n % 256) ≡ bytes 1 n
+unfolding bytes
+byte-mod n = let e : n % 256 % 256 ≡ n % 256 = omega arith in rw e
+
+-- The bytes of two numbers, one behind the other, are those of one number.
+shifted : (a m : ℕ) → ((a + 256 * m) % 256 ≡ a % 256) × ((a + 256 * m) / 256 ≡ a / 256 + m)
+shifted a m = (omega arith, omega arith)
+
+pub bytes-two : (w v a b : ℕ) → a < 256 ^ w → bytes (w + v) (a + 256 ^ w * b) ≡ bytes w a ++ bytes v b
+unfolding bytes
+bytes-two zero v a b h = let e : a + 256 ^ 0 * b ≡ b = omega arith in rw (zero-add v, e)
+bytes-two (suc w) v a b h =
+    let d : a / 256 < 256 ^ w = div-lt-iff-lt-mul (zero-lt-suc 255) .1 (rw pow-suc at h) in
+    let e : 256 ^ suc w * b ≡ 256 * (256 ^ w * b) = rw (pow-suc, mul-comm (256 ^ w) 256, mul-assoc) refl in
+    let s = shifted a (256 ^ w * b) in
+    rw (suc-add, e) (rw (s .0, s .1, bytes-two w v (a / 256) b d))
 
 pub shape-small : (o : Operand) → shape o < 3
 unfolding shape
@@ -37,35 +53,25 @@ shape-small Nothing = omega arith
 shape-small (Literal z) = omega arith
 shape-small (Variable v) = omega arith
 
--- The first four bytes of a cell, and all of them.
-pub head-written : (b : List ℕ) (at : ℕ) (c : Cell) {h : ℕ} {b₁ b₂ b₃ b₄ : List ℕ} → h ≡ shape (c .left) + 4 * shape (c .right)
-    → b₁ ≡ sets b at (bytes 1 (c .operation)) → b₂ ≡ sets b₁ (at + 1) (bytes 1 (c .written)) → b₃ ≡ sets b₂ (at + 2) (bytes 1 (c .selector))
-    → b₄ ≡ sets b₃ (at + 3) (bytes 1 h) → b₄ ≡ sets b at (headBytes c)
-unfolding headBytes
-head-written b at c e h₁ h₂ h₃ h₄ = h₄ ∙ rw (h₃, h₂, h₁, e) (simp (sets-append, length-bytes, add-assoc))
+-- What code leaves: the first half of a cell from the numbers that hold its parts, and a buffer that was stored to twice.
+pub first-packed : (c : Cell) {sh l : ℕ} {x y h r : List ℕ} → sh ≡ shape (c .left) + 4 * shape (c .right) → l ≡ operandNumber (c .left)
+    → x ≡ bytes 1 (c .operation) ++ bytes 1 (c .written % 256) → y ≡ bytes 1 (c .selector) ++ bytes 1 sh → h ≡ x ++ y → r ≡ h ++ bytes 4 l → r ≡ firstHalf c
+unfolding firstHalf
+first-packed c es el ex ey eh er = er ∙ rw (eh, ex, ey, el, es, byte-mod) (simp append-assoc)
 
-pub cell-written : (b : List ℕ) (at : ℕ) (c : Cell) {l r : ℕ} {b₁ b₂ b₃ b₄ b₅ : List ℕ} → l ≡ operandNumber (c .left) → r ≡ operandNumber (c .right)
-    → b₁ ≡ sets b at (headBytes c) → b₂ ≡ sets b₁ (at + 4) (bytes 4 l) → b₃ ≡ sets b₂ (at + 8) (bytes 4 r)
-    → b₄ ≡ sets b₃ (at + 12) (bytes 2 (c .target)) → b₅ ≡ sets b₄ (at + 14) (bytes 2 0) → b₅ ≡ sets b at (cellBytes c)
-unfolding cellBytes headBytes
-cell-written b at c e f h₁ h₂ h₃ h₄ h₅ = h₅ ∙ rw (h₄, h₃, h₂, h₁, e, f) (simp (sets-append, length-bytes, add-assoc))
+pub twice-written : (b : List ℕ) (at : ℕ) (f g : ℕ) {xs ys b₁ b₂ : List ℕ} → bytes 8 f ≡ xs → bytes 8 g ≡ ys
+    → b₁ ≡ sets b at (bytes 8 f) → b₂ ≡ sets b₁ (at + 8) (bytes 8 g) → b₂ ≡ sets b at (xs ++ ys)
+twice-written b at f g ef eg h₁ h₂ = h₂ ∙ rw (h₁, ← ef, ← eg, sets-append b at (bytes 8 f) (bytes 8 g), length-bytes 8 f)
 
--- A record of a label, of a variable, and the trailer.
-pub label-written : (b : List ℕ) (at name target : ℕ) {b₁ b₂ : List ℕ} → b₁ ≡ sets b at (bytes 2 name) → b₂ ≡ sets b₁ (at + 2) (bytes 2 target)
-    → b₂ ≡ sets b at (bytes 2 name ++ bytes 2 target)
-label-written b at name target h₁ h₂ = h₂ ∙ rw h₁ (simp (sets-append, length-bytes))
+pub cell-halves : (c : Cell) → firstHalf c ++ secondHalf c ≡ cellBytes c
+unfolding firstHalf secondHalf cellBytes
+cell-halves c = simp append-assoc
 
-pub variable-written : (b : List ℕ) (at name start : ℕ) {n : ℕ} {b₁ b₂ b₃ : List ℕ} → n ≡ start → b₁ ≡ sets b at (bytes 2 name)
-    → b₂ ≡ sets b₁ (at + 2) (bytes 2 0) → b₃ ≡ sets b₂ (at + 4) (bytes 4 n) → b₃ ≡ sets b at (bytes 2 name ++ (bytes 2 0 ++ bytes 4 start))
-variable-written b at name start e h₁ h₂ h₃ = h₃ ∙ rw (h₂, h₁, e) (simp (sets-append, length-bytes, add-assoc))
-
-pub trailer-written : (b : List ℕ) (at cells labels variables : ℕ) {first whole : ℕ} {b₁ b₂ b₃ b₄ b₅ b₆ : List ℕ} → first ≡ 16 * cells + 0
-    → whole ≡ imageLength cells labels variables → b₁ ≡ sets b at (bytes 4 first) → b₂ ≡ sets b₁ (at + 4) (bytes 2 cells)
-    → b₃ ≡ sets b₂ (at + 6) (bytes 2 labels) → b₄ ≡ sets b₃ (at + 8) (bytes 2 variables) → b₅ ≡ sets b₄ (at + 10) (bytes 2 1)
-    → b₆ ≡ sets b₅ (at + 12) (bytes 4 whole) → b₆ ≡ sets b at (trailerBytes cells labels variables)
+pub trailer-halves : (cells labels variables : ℕ) {first whole : ℕ} {f b x y : List ℕ} → first ≡ 16 * cells + 0 → whole ≡ imageLength cells labels variables
+    → f ≡ bytes 4 first ++ x → x ≡ bytes 2 cells ++ bytes 2 labels → b ≡ y ++ bytes 4 whole → y ≡ bytes 2 variables ++ bytes 2 1
+    → f ++ b ≡ trailerBytes cells labels variables
 unfolding trailerBytes
-trailer-written b at cells labels variables e f h₁ h₂ h₃ h₄ h₅ h₆ =
-    h₆ ∙ rw (h₅, h₄, h₃, h₂, h₁, e, f) (simp (add-zero, sets-append, length-bytes, add-assoc))
+trailer-halves cells labels variables ei ew ef ex eb ey = rw (ef, ex, eb, ey, ei, ew, add-zero) (simp append-assoc)
 
 -- The lengths of the parts.
 pub length-cell : (c : Cell) → length (cellBytes c) ≡ 16

@@ -1,26 +1,16 @@
--- What a trailer that fits tells, and names as numbers: the tests of records on keys are those of Check on names.
+-- What a trailer that fits tells.
 -- Assumes nothing.
-use mathlib.Core.Path.{_≡_, refl, sym, subst, ap, ap₂, _∙_}
-use mathlib.Core.Bool.{Bool, false, _||_, not}
+use mathlib.Core.Path.{_≡_, refl}
+use mathlib.Core.Bool.{Bool, true, false, _||_, not}
 use mathlib.Core.List.{List}
-use Prim.Native.Nat.{ℕ, _+_, _*_, _^_, _≤_, _<_}
-use native.Mathlib.Omega.{arith}
-use native.Mathlib.Decide.{decLt}
-use borrow.Author.Tests.{lt-ltb, le-ltb, ltb-false, eqb-true, not-false}
-use lib.Dec.{T, eqb, eqb-refl, eqb→eq}
+use Prim.Native.Nat.{ℕ, _*_, _≤_}
+use borrow.Author.Tests.{ltb-false, eqb-true, not-false}
+use lib.Dec.{eqb}
 use lib.ListN.{length}
-use Rattle.numbers.specs.Bytes.{bytes, number}
-use Rattle.numbers.specs.Tests.{eqList, anyOf}
-use Rattle.numbers.proofs.Laws.{Bytes, there-and-back, bytes-field, field-below}
-use Rattle.numbers.proofs.Truth.{neither, same-test}
-use Rattle.numbers.proofs.Tests.{eqList-refl, eqList-eq}
-use Rattle.program.specs.Names.{userName}
+use Rattle.numbers.proofs.Truth.{neither}
 use Rattle.program.specs.Variables.{mostCells, mostLabels, mostVariables}
-use Rattle.program.proofs.Keys.{user-bytes}
-use Rattle.image.specs.Layout.{imageLength, cellCount, labelCount, variableCount, firstLabelPlace, wholeLength, labelPlace, variablePlace, nameAt}
-use Rattle.image.specs.Check.{badTrailer, layouts, fits, recordPlace, recordName, badName}
-use Rattle.image.specs.Code.{recordPlaceOf, keyOf, repeatedKey, badKey, fieldsAt, fitsOf}
-use Rattle.image.proofs.Any.{same-search}
+use Rattle.image.specs.Layout.{imageLength, cellCount, labelCount, variableCount, firstLabelPlace, wholeLength}
+use Rattle.image.specs.Check.{badTrailer}
 
 -- A trailer that fits the image and the limits.
 pub record Fitting (s : List ℕ) : Type 0 where
@@ -50,42 +40,3 @@ fitting s e =
       labels = ltb-false _ _ (l .0);
       variables = ltb-false _ _ (l .1);
     }
-
--- Two numbers of w bytes are the same where their bytes are.
-pub eq-bytes : (w a b : ℕ) → a < 256 ^ w → b < 256 ^ w → eqList (bytes w a) (bytes w b) ≡ eqb a b
-eq-bytes w a b ha hb =
-    same-test (eqList (bytes w a) (bytes w b)) (eqb a b)
-    (λ t.
-    let e : a ≡ b = sym (there-and-back w a ha) ∙ ap number (eqList-eq (bytes w a) (bytes w b) t) ∙ there-and-back w b hb in
-    subst (λ (m : ℕ). T (eqb a m)) e (eqb-refl a))
-    (λ t. subst (λ (m : ℕ). T (eqList (bytes w a) (bytes w m))) (eqb→eq a b t) (eqList-refl (bytes w a)))
-
-module _ (s : List ℕ) (byte : Bytes s) (fit : Fitting s) where
-  abbrev keyAt : ℕ → ℕ
-  keyAt k = keyOf (cellCount s) (labelCount s) s k
-
-  inside : (k : ℕ) → k < labelCount s + variableCount s → Dec (k < labelCount s) → recordPlace s k + 2 ≤ length s
-  unfolding recordPlace labelPlace variablePlace imageLength
-  inside k h (yes l) = let e = fit .size in rw (lt-ltb k (labelCount s) l) (omega arith)
-  inside k h (no l) = let e = fit .size in rw (le-ltb k (labelCount s) (omega arith)) (omega arith)
-
-  name-key : (k : ℕ) → k < labelCount s + variableCount s → recordName s k ≡ bytes 2 (keyAt k)
-  unfolding recordName nameAt keyOf recordPlaceOf recordPlace labelPlace variablePlace
-  name-key k h = sym (bytes-field 2 (recordPlace s k) s byte (inside k h (decLt k (labelCount s))))
-
-  key-below : (k : ℕ) → keyAt k < 256 ^ 2
-  unfolding keyOf
-  key-below k = field-below 2 (recordPlaceOf (cellCount s) (labelCount s) k) s byte
-
-  -- A bad name is a bad key.
-  pub bad-key : (k : ℕ) → k < labelCount s + variableCount s → badKey (cellCount s) (labelCount s) s k ≡ badName s k
-  unfolding badName badKey repeatedKey
-  bad-key k h =
-      ap₂ (λ (u v : Bool). not u || v)
-      (sym (ap userName (name-key k h) ∙ user-bytes (keyAt k) (key-below k)))
-      (same-search k (λ j l. sym (ap₂ eqList (name-key j (omega arith)) (name-key k h) ∙ eq-bytes 2 (keyAt j) (keyAt k) (key-below j) (key-below k))))
-
--- A cell's fields fit a layout where those at its place do.
-pub layouts-fit : (s : List ℕ) (k : ℕ) → anyOf (fitsOf s (variableCount s) (fieldsAt s k)) layouts ≡ anyOf (fits s (16 * k)) layouts
-unfolding fitsOf fieldsAt fits
-layouts-fit s k = refl

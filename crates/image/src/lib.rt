@@ -3,42 +3,40 @@ ghost use mathlib.Core.Path.{_≡_};
 ghost use Prim.Native.Nat.{_+_};
 ghost use Rattle.numbers.specs.Bytes.{field};
 ghost use Rattle.image.specs.Layout.{imageLength, trailerPlace, firstLabelPlace, cellCount, labelCount, variableCount, edition, wholeLength, operandAt, cellAt, startValue};
-ghost use Rattle.image.specs.Code.{labelPlaceOf, variablePlaceOf};
+ghost use Rattle.image.specs.Code.{labelPlaceOf, variablePlaceOf, targetOf};
 use program::Cell;
 use program::Operand;
 
-mod check;
 mod write;
 
-pub use check::checked;
 pub use write::write_cell;
 pub use write::write_label;
 pub use write::write_trailer;
 pub use write::write_variable;
 
 // How many bytes each part takes.
-const CELL_BYTES: usize = 16;
+pub const CELL_BYTES: usize = 16;
 
-const LABEL_BYTES: usize = 4;
+pub const LABEL_BYTES: usize = 4;
 
-const VARIABLE_BYTES: usize = 8;
+pub const VARIABLE_BYTES: usize = 8;
 
-const TRAILER_BYTES: usize = 16;
+pub const TRAILER_BYTES: usize = 16;
 
 // Where the fields of a cell stand after its operation.
-const WRITTEN: usize = 1;
+pub const WRITTEN: usize = 1;
 
-const SELECTOR: usize = 2;
+pub const SELECTOR: usize = 2;
 
-const SHAPES: usize = 3;
+pub const SHAPES: usize = 3;
 
-const LEFT: usize = 4;
+pub const LEFT: usize = 4;
 
-const RIGHT: usize = 8;
+pub const RIGHT: usize = 8;
 
-const TARGET: usize = 12;
+pub const TARGET: usize = 12;
 
-const ZEROS: usize = 14;
+pub const ZEROS: usize = 14;
 
 // Where the fields of the trailer stand behind its first, which says where the labels begin.
 const CELL_COUNT: usize = 4;
@@ -51,21 +49,21 @@ const EDITION: usize = 10;
 
 const WHOLE_LENGTH: usize = 12;
 
-const THIS_EDITION: u16 = 1;
+pub const THIS_EDITION: u16 = 1;
 
 // Where the fields of a label record and of a variable record stand after the name.
 const LABEL_TARGET: usize = 2;
 
-const VARIABLE_ZEROS: usize = 2;
+pub const VARIABLE_ZEROS: usize = 2;
 
-const START_VALUE: usize = 4;
+pub const START_VALUE: usize = 4;
 
 // The shapes of an operand that is there; the right one counts four times.
-const LITERAL: u8 = 1;
+pub const LITERAL: u8 = 1;
 
-const VARIABLE: u8 = 2;
+pub const VARIABLE: u8 = 2;
 
-const RIGHT_SHAPE: u8 = 4;
+pub const RIGHT_SHAPE: u8 = 4;
 
 // The length of an image with these counts.
 pub fn image_length(cells: u16, labels: u16, variables: u16) -> usize
@@ -92,7 +90,7 @@ pub fn variable_place(cells: u16, labels: u16, number: u16) -> usize
 }
 
 // One byte; 0 past the end.
-fn byte(s: &[u8], place: usize) -> u8
+pub fn byte(s: &[u8], place: usize) -> u8
     ensures { λ r. ⌜ r ≡ field 1 place (now (s .entry)) ⌝ }
 {
     if s.len() <= place {
@@ -181,6 +179,13 @@ pub fn cell_at(s: &[u8], number: u16) -> Cell
         right: right,
         target: target,
     }
+}
+
+// The target of a label record, in an image of so many cells.
+pub fn target_at(s: &[u8], cells: u16, k: u16) -> u16
+    ensures { λ r. ⌜ r ≡ targetOf cells (now (s .entry)) k ⌝ }
+{
+    numbers::read2(s, label_place(cells, k) + LABEL_TARGET)
 }
 
 // The start value in the variable record with this number.

@@ -1,13 +1,11 @@
 // Writing the parts of an image. What falls past the end of the buffer is not written.
 ghost use mathlib.Core.Path.{_≡_};
 ghost use mathlib.Core.List.{_++_};
-ghost use Prim.Native.Nat.{_<_};
-ghost use lib.ListN.{length};
 ghost use lib.Seq.{sets};
 ghost use Rattle.numbers.specs.Bytes.{bytes};
 ghost use Rattle.numbers.specs.Bits.{digits32};
 ghost use Rattle.image.specs.Layout.{shape, operandNumber, cellBytes, trailerBytes};
-ghost use Rattle.image.specs.Code.{headBytes};
+ghost use Rattle.image.specs.Code.{firstHalf, secondHalf};
 use program::Cell;
 use program::Operand;
 
@@ -32,18 +30,43 @@ fn operand_number(o: Operand) -> u32
     }
 }
 
-// The first four bytes of a cell: operation, variable written, operator or comparison, and shapes.
-fn write_head(b: &mut [u8], at: usize, c: Cell)
-    requires { ⌜ at < length (now b) ⌝ }
-    ensures { λ r. ⌜ now (b .exit) ≡ sets (now (b .entry)) at (headBytes c) ⌝ }
+// The number whose bytes are those of two numbers, one behind the other: of one byte each, of two, of four.
+fn two_bytes(low: u8, high: u8) -> u16
+    ensures { λ r. ⌜ bytes 2 r ≡ bytes 1 low ++ bytes 1 high ⌝ }
+{
+    (low as u16) + 256 * (high as u16)
+}
+
+fn four_bytes(low: u16, high: u16) -> u32
+    ensures { λ r. ⌜ bytes 4 r ≡ bytes 2 low ++ bytes 2 high ⌝ }
+{
+    (low as u32) + 65536 * (high as u32)
+}
+
+fn eight_bytes(low: u32, high: u32) -> u64
+    ensures { λ r. ⌜ bytes 8 r ≡ bytes 4 low ++ bytes 4 high ⌝ }
+{
+    (low as u64) + 4294967296 * (high as u64)
+}
+
+// The first eight bytes of a cell: operation, variable written, operator or comparison, shapes, left operand.
+fn first_half(c: Cell) -> u64
+    ensures { λ r. ⌜ bytes 8 r ≡ firstHalf c ⌝ }
 {
     let left = c.left;
     let right = c.right;
     let shapes = shape(left) + crate::RIGHT_SHAPE * shape(right);
-    numbers::write(b, at, 1, c.operation as u64);
-    numbers::write(b, at + crate::WRITTEN, 1, c.written as u64);
-    numbers::write(b, at + crate::SELECTOR, 1, c.selector as u64);
-    numbers::write(b, at + crate::SHAPES, 1, shapes as u64);
+    let front = two_bytes(c.operation, (c.written % 256) as u8);
+    let head = four_bytes(front, two_bytes(c.selector, shapes));
+    eight_bytes(head, operand_number(left))
+}
+
+// The other eight: right operand, target, zeros.
+fn second_half(c: Cell) -> u64
+    ensures { λ r. ⌜ bytes 8 r ≡ secondHalf c ⌝ }
+{
+    let right = c.right;
+    eight_bytes(operand_number(right), four_bytes(c.target, 0))
 }
 
 // The 16 bytes of a cell.
@@ -53,36 +76,27 @@ pub fn write_cell(b: &mut [u8], at: usize, c: Cell)
     if b.len() <= at {
         return;
     }
-    let left = c.left;
-    let right = c.right;
-    write_head(b, at, c);
-    numbers::write(b, at + crate::LEFT, 4, operand_number(left) as u64);
-    numbers::write(b, at + crate::RIGHT, 4, operand_number(right) as u64);
-    numbers::write(b, at + crate::TARGET, 2, c.target as u64);
-    numbers::write(b, at + crate::ZEROS, 2, 0);
+    numbers::write(b, at, 8, first_half(c));
+    numbers::write(b, at + crate::RIGHT, 8, second_half(c));
 }
 
 // A label record: the name as a number, and the target.
 pub fn write_label(b: &mut [u8], at: usize, name: u16, target: u16)
     ensures { λ r. ⌜ now (b .exit) ≡ sets (now (b .entry)) at (bytes 2 name ++ bytes 2 target) ⌝ }
 {
-    if b.len() <= at {
-        return;
-    }
-    numbers::write(b, at, 2, name as u64);
-    numbers::write(b, at + crate::LABEL_TARGET, 2, target as u64);
+    numbers::write(b, at, 4, four_bytes(name, target) as u64);
 }
 
 // A variable record: the name as a number, and the start value.
 pub fn write_variable(b: &mut [u8], at: usize, name: u16, start: i32)
     ensures { λ r. ⌜ now (b .exit) ≡ sets (now (b .entry)) at (bytes 2 name ++ (bytes 2 0 ++ bytes 4 (digits32 start))) ⌝ }
 {
-    if b.len() <= at {
-        return;
-    }
-    numbers::write(b, at, 2, name as u64);
-    numbers::write(b, at + crate::VARIABLE_ZEROS, 2, 0);
-    numbers::write(b, at + crate::START_VALUE, 4, numbers::digits(start) as u64);
+    numbers::write(
+        b,
+        at,
+        8,
+        eight_bytes(four_bytes(name, 0), numbers::digits(start)),
+    );
 }
 
 // The trailer of an image with these counts.
@@ -92,12 +106,10 @@ pub fn write_trailer(b: &mut [u8], at: usize, cells: u16, labels: u16, variables
     if b.len() <= at {
         return;
     }
-    let first_label = crate::label_place(cells, 0);
-    let whole = crate::image_length(cells, labels, variables);
-    numbers::write(b, at, 4, first_label as u64);
-    numbers::write(b, at + crate::CELL_COUNT, 2, cells as u64);
-    numbers::write(b, at + crate::LABEL_COUNT, 2, labels as u64);
-    numbers::write(b, at + crate::VARIABLE_COUNT, 2, variables as u64);
-    numbers::write(b, at + crate::EDITION, 2, crate::THIS_EDITION as u64);
-    numbers::write(b, at + crate::WHOLE_LENGTH, 4, whole as u64);
+    let first_label = crate::label_place(cells, 0) as u32;
+    let whole = crate::image_length(cells, labels, variables) as u32;
+    let front = eight_bytes(first_label, four_bytes(cells, labels));
+    let back = eight_bytes(four_bytes(variables, crate::THIS_EDITION), whole);
+    numbers::write(b, at, 8, front);
+    numbers::write(b, at + crate::VARIABLE_COUNT, 8, back);
 }

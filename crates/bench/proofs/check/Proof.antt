@@ -7,7 +7,7 @@ use Rattle.bench.proofs.check.Statement.{statement}
 use Rattle.bench.proofs.check.Tie as tie
 use Rattle.bench.proofs.check.Reads as reads
 use Rattle.bench.proofs.check.Lts as lts
-use Rattle.image.proofs.checked.Reads as checked-reads
+use Rattle.checking.proofs.checked.Reads as checked-reads
 
 checked-requires : tie.Need-checked-requires
 checked-requires c κs = search needs

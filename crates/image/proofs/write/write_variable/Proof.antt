@@ -1,64 +1,32 @@
--- `write::write_variable` meets its contract: three fields, one behind the other.
+-- `write::write_variable` meets its contract: three fields as one number.
 -- Assumes nothing.
-use mathlib.Core.List.{_++_}
-use mathlib.Core.Path.{sym, ap, _∙_}
+use mathlib.Core.List.{append-assoc}
 use borrow.Author.Needs.{needs}
 use Rattle.numbers.proofs.Kit.{back32}
-use Rattle.numbers.proofs.Laws.{sets-out}
-use Rattle.numbers.specs.Bits.{digits32}
-use Rattle.numbers.specs.Bytes.{bytes}
-use Rattle.image.proofs.Laws.{variable-written}
 use Rattle.image.proofs.write.write_variable.Statement.{statement}
 use Rattle.image.proofs.write.write_variable.Tie as tie
 
-returns : tie.Need-returns
-returns c = let a = c .before .before .args in sym (sets-out (a .b .now) (a .at) (bytes 2 (a .name) ++ (bytes 2 0 ++ bytes 4 (digits32 (a .start)))) (c .if1 .taken))
-
-write-requires : tie.Need-write-requires
-write-requires c κs = search needs
-
-add-write : tie.Need-add-write
-add-write c = search needs
-
-write-requires-2 : tie.Need-write-requires-2
-write-requires-2 c κs = search needs
-
-add-write-2 : tie.Need-add-write-2
-add-write-2 c = search needs
+four-bytes-requires : tie.Need-four-bytes-requires
+four-bytes-requires c κs = search needs
 
 digits-requires : tie.Need-digits-requires
 digits-requires c κs = search needs
 
-cast-write : tie.Need-cast-write
-cast-write c = search needs
+eight-bytes-requires : tie.Need-eight-bytes-requires
+eight-bytes-requires c κs = search needs
 
-write-requires-3 : tie.Need-write-requires-3
-write-requires-3 c κs = search needs
+write-requires : tie.Need-write-requires
+write-requires c κs = search needs
 
 same-length : tie.Need-same-length
 same-length c = search needs
 
-returns-2 : tie.Need-returns-2
-returns-2 c =
-    let w₃ = c .before .before in
-    let w₂ = w₃ .before .before .before .before .before in
-    let w₁ = w₂ .before .before .before .before in
-    let st = w₁ .before .before .before .before in
-    let a = st .args in
-    variable-written (a .b .now) (a .at) (a .name) (digits32 (a .start)) (w₃ .before .digits .ensures ∙ ap digits32 (back32 (st .fits .start)))
-    (w₁ .write .ensures) (w₂ .write2 .ensures) (w₃ .write3 .ensures)
+returns : tie.Need-returns
+returns c =
+    let w = c .before .before in
+    let e = w .before in
+    let d = e .before in
+    rw (w .write .ensures, e .eight-bytes .ensures, d .digits .ensures, back32 (d .before .before .before .before .fits .start), d .before .four-bytes .ensures) (simp append-assoc)
 
 pub write-variable-spec : {M : Type 1} → statement M
-write-variable-spec =
-    tie.close
-    (tie.spec
-    returns
-    write-requires
-    add-write
-    write-requires-2
-    add-write-2
-    digits-requires
-    cast-write
-    write-requires-3
-    same-length
-    returns-2)
+write-variable-spec = tie.close (tie.spec four-bytes-requires digits-requires eight-bytes-requires write-requires same-length returns)

@@ -1,0 +1,71 @@
+-- `bad_cells` meets its contract: the loop searches the cells. The invariant: none was found before.
+-- Assumes nothing.
+use mathlib.Core.Bool.{false}
+use mathlib.Core.Path.{_≡_}
+use Prim.Native.Nat.{_≤_, _-_}
+use native.Mathlib.Omega.{arith}
+use borrow.Author.Needs.{needs}
+use Rattle.numbers.specs.Tests.{anyBelow}
+use Rattle.image.specs.Check.{badCell, badCells}
+use Rattle.image.proofs.Any.{none-yet, one-more, that-is, all-without}
+use Rattle.cells.proofs.bad_cells.Statement.{statement}
+use Rattle.cells.proofs.bad_cells.Tie as tie
+
+abbrev Inv-loop : tie.InvT-loop
+Inv-loop s cells variables marks k₀ k = (k ≤ cells) × (anyBelow k (badCell s) ≡ false)
+
+abbrev μ-loop : tie.MeasureT-loop
+μ-loop s cells variables marks k₀ k = cells - k
+
+cell-count-requires : tie.Need-cell-count-requires Inv-loop μ-loop
+cell-count-requires c κs = search needs
+
+variable-count-requires : tie.Need-variable-count-requires Inv-loop μ-loop
+variable-count-requires c κs = search needs
+
+label-targets-requires : tie.Need-label-targets-requires Inv-loop μ-loop
+label-targets-requires c κs = search needs
+
+loop-holds : tie.Need-loop-holds Inv-loop μ-loop
+loop-holds c = (omega arith, none-yet _)
+
+bad-cell-requires : tie.Need-bad-cell-requires Inv-loop μ-loop
+bad-cell-requires c κs = search needs
+
+returns : tie.Need-returns Inv-loop μ-loop
+unfolding badCells
+returns c =
+    let l = c .before .before .before .before in
+    that-is _ (l .loop .k) (l .before .before .before .cell-count .ensures) (c .before .before .before .loop-test .taken) (c .before .bad-cell .ensures) (c .if1 .taken)
+
+add-k : tie.Need-add-k Inv-loop μ-loop
+add-k c = omega arith
+
+loop-less : tie.Need-loop-less Inv-loop μ-loop
+loop-less c = omega arith
+
+loop-again : tie.Need-loop-again Inv-loop μ-loop
+loop-again c =
+    let l = c .before .before .before .before .loop in
+    (omega arith, one-more _ (l .k) (l .inv .1) (c .before .bad-cell .ensures) (c .if1 .left))
+
+returns-2 : tie.Need-returns-2 Inv-loop μ-loop
+unfolding badCells
+returns-2 c = all-without _ (c .before .loop .k) (c .before .before .before .before .cell-count .ensures) (c .before .loop .inv .0) (c .loop-test .left) (c .before .loop .inv .1)
+
+pub bad-cells-spec : {M : Type 1} → statement M
+bad-cells-spec =
+    tie.close
+    (tie.spec
+    Inv-loop
+    μ-loop
+    cell-count-requires
+    variable-count-requires
+    label-targets-requires
+    loop-holds
+    bad-cell-requires
+    returns
+    add-k
+    loop-less
+    loop-again
+    returns-2)

@@ -1,0 +1,24 @@
+-- `good_written` meets its contract: by whether the field is used.
+-- Assumes nothing.
+use borrow.Author.Needs.{needs}
+use Rattle.image.specs.Check.{goodWritten}
+use Rattle.cells.proofs.good_written.Statement.{statement}
+use Rattle.cells.proofs.good_written.Tie as tie
+
+is-present-requires : tie.Need-is-present-requires
+is-present-requires c κs = search needs
+
+is-read-only-requires : tie.Need-is-read-only-requires
+is-read-only-requires c κs = search needs
+
+returns : tie.Need-returns
+unfolding goodWritten
+returns c = rw (c .before .before .if1 .taken, c .is-read-only .ensures, c .before .is-present .ensures)
+
+returns-2 : tie.Need-returns-2
+unfolding goodWritten
+returns-2 c = rw (c .if1 .left)
+
+pub good-written-spec : {M : Type 1} → statement M
+good-written-spec =
+    tie.close (tie.spec is-present-requires is-read-only-requires returns returns-2)

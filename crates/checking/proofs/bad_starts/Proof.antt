@@ -1,0 +1,73 @@
+-- `bad_starts` meets its contract: the loop searches the variable records. The invariant: none was found before.
+-- Assumes nothing.
+use mathlib.Core.Bool.{false}
+use mathlib.Core.Path.{_≡_}
+use Prim.Native.Nat.{_≤_, _-_}
+use native.Mathlib.Omega.{arith}
+use borrow.Author.Needs.{needs}
+use Rattle.numbers.specs.Tests.{anyBelow}
+use Rattle.image.specs.Check.{badStart}
+use Rattle.image.specs.Layout.{startValue, variablePlace}
+use Rattle.cells.specs.Code.{literalBits}
+use Rattle.checking.specs.Code.{badStartOf}
+use Rattle.image.proofs.Any.{none-yet, one-more, that-is, all-without}
+use Rattle.checking.proofs.bad_starts.Statement.{statement}
+use Rattle.checking.proofs.bad_starts.Tie as tie
+
+abbrev Inv-loop : tie.InvT-loop
+Inv-loop s cells labels variables k₀ k = (k ≤ variables) × (anyBelow k (badStart s) ≡ false)
+
+abbrev μ-loop : tie.MeasureT-loop
+μ-loop s cells labels variables k₀ k = variables - k
+
+cell-count-requires : tie.Need-cell-count-requires Inv-loop μ-loop
+cell-count-requires c κs = search needs
+
+label-count-requires : tie.Need-label-count-requires Inv-loop μ-loop
+label-count-requires c κs = search needs
+
+variable-count-requires : tie.Need-variable-count-requires Inv-loop μ-loop
+variable-count-requires c κs = search needs
+
+loop-holds : tie.Need-loop-holds Inv-loop μ-loop
+loop-holds c = (omega arith, none-yet _)
+
+bad-start-requires : tie.Need-bad-start-requires Inv-loop μ-loop
+bad-start-requires c κs = search needs
+
+-- what a turn looks at
+looked : (c : tie.After-bad-start Inv-loop μ-loop) → c .bad-start .result ≡ badStart (c .before .before .before .before .before .before .before .args .s .now) (c .before .before .loop .k)
+unfolding badStart badStartOf startValue variablePlace literalBits
+looked c = rw (c .bad-start .ensures, c .before .before .before .before .label-count .ensures, c .before .before .before .before .before .cell-count .ensures)
+
+returns : tie.Need-returns Inv-loop μ-loop
+returns c = that-is _ (c .before .before .before .loop .k) (c .before .before .before .before .variable-count .ensures) (c .before .before .loop-test .taken) (looked (c .before)) (c .if1 .taken)
+
+add-k : tie.Need-add-k Inv-loop μ-loop
+add-k c = omega arith
+
+loop-less : tie.Need-loop-less Inv-loop μ-loop
+loop-less c = omega arith
+
+loop-again : tie.Need-loop-again Inv-loop μ-loop
+loop-again c = (omega arith, one-more _ (c .before .before .before .loop .k) (c .before .before .before .loop .inv .1) (looked (c .before)) (c .if1 .left))
+
+returns-2 : tie.Need-returns-2 Inv-loop μ-loop
+returns-2 c = all-without _ (c .before .loop .k) (c .before .before .variable-count .ensures) (c .before .loop .inv .0) (c .loop-test .left) (c .before .loop .inv .1)
+
+pub bad-starts-spec : {M : Type 1} → statement M
+bad-starts-spec =
+    tie.close
+    (tie.spec
+    Inv-loop
+    μ-loop
+    cell-count-requires
+    label-count-requires
+    variable-count-requires
+    loop-holds
+    bad-start-requires
+    returns
+    add-k
+    loop-less
+    loop-again
+    returns-2)
