@@ -1,7 +1,7 @@
 -- Tables of marks: the numbers that were passed, each marked at its place.
 -- Assumes nothing.
 use mathlib.Core.Path.{_≡_, refl, sym, _∙_}
-use mathlib.Core.Bool.{Bool, true, false, _||_, or-false}
+use mathlib.Core.Bool.{Bool, true, false, _||_, or-false, or-true}
 use mathlib.Core.List.{List}
 use Prim.Native.Nat.{ℕ, _+_, _<_}
 use native.Mathlib.Numerals.{add-one}
@@ -11,7 +11,6 @@ use lib.Dec.{eqb}
 use lib.ListN.{length, getD, set, replicate, length-replicate, getD-replicate, length-set}
 use lib.Seq.{getD-set-same, getD-set-other}
 use Rattle.numbers.specs.Tests.{anyBelow}
-use Rattle.image.proofs.Any.{or-true}
 use Rattle.cells.specs.Code.{Marked}
 
 module _ (size : ℕ) (key : ℕ → ℕ) where
