@@ -36,7 +36,7 @@ never : true ≡ false → ⊥
 never e = let q : _≡_ {A = ℕ} 0 1 = cc in omega arith
 
 -- What a form makes sure of.
-abbrev SoundAt : Option Line → Type 0
+abbrev pub SoundAt : Option Line → Type 0
 SoundAt none = Unit
 SoundAt (some x) = Sound x
 
@@ -54,7 +54,7 @@ unfolding statement
 statement-sound [] = tt
 statement-sound (t ∷ ts) = form-sound rows (t ∷ ts)
 
-reading-sound : (l : List ℕ) → SoundAt (reading l)
+pub reading-sound : (l : List ℕ) → SoundAt (reading l)
 unfolding reading
 reading-sound l = pick (allOf printable l)
   where
