@@ -21,13 +21,12 @@ use Rattle.program.proofs.Statements.{cell-has, both-read}
 use Rattle.program.proofs.Keys.{key-below}
 use Rattle.text.specs.Forms.{Line, Blank, Label, Declared, Acts}
 use Rattle.text.specs.Faults.{said, heard, declaresIt, firstMakes, makesLabel, unknownVariable, faults}
-use Rattle.reading.specs.Code.{saidBy, readingOf}
+use Rattle.reading.specs.Code.{saidBy, readingOf, declaring}
 use Rattle.reading.specs.declared.Reading.{Reading}
 use Rattle.text.proofs.Words.{variable-word}
 use Rattle.text.proofs.Filled.{Known, Named}
 use Rattle.reading.proofs.Heard.{Fine, heard-fine, line-fault, repeated-asked, too-many-asked, undeclared-asked, read-only-asked}
 use Rattle.names.specs.declared.Counts.{Counts}
-use Rattle.reading.specs.Code.{declaring}
 use Rattle.names.specs.Code.{DeclaredAs, KeyOperand, Keyed, unknownTarget, unknownWritten, unknownOperand, unknownCell, readOnlyKey, repeatedKey, tooManyBy, countsOf, faultBy}
 
 -- A variable: of the paper's; sought.

@@ -19,13 +19,12 @@ use Rattle.text.specs.Forms.{Line, Blank, Label, Declared, Acts}
 use Rattle.text.specs.Lines.{lines}
 use Rattle.text.specs.Faults.{heard, said, declares, declaresIt, makesLabel, makesVariable, firstMakes, placeOf, rankOf, faults, firstFrom, faultsFrom, textFaults, firstFault}
 use Rattle.text.specs.Code.{LineAt}
-use Rattle.reading.specs.Code.{saidBy, readingOf}
+use Rattle.reading.specs.Code.{saidBy, readingOf, declaring, headOf}
 use Rattle.text.specs.declared.Span.{Span}
 use Rattle.reading.specs.declared.Reading.{Reading}
 use Rattle.reading.proofs.Heard.{Fine, heard-fine, cell-kind, label-kind, variable-kind, reading-kind, reading-name, line-fault}
 use Rattle.names.specs.declared.Found.{Found}
 use Rattle.reading.specs.declared.heads.Head.{Head}
-use Rattle.reading.specs.Code.{declaring, headOf}
 use Rattle.names.specs.Code.{found, plus, declaredIn, kindFrom, foundFrom, DeclaredAs, FoundAt}
 use Rattle.reading.proofs.Openings.{declaring-head, fine-head}
 use Rattle.names.proofs.Lines.{said-next, said-end, few-said, few-places, few-ranks}

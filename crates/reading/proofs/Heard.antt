@@ -36,7 +36,7 @@ use Rattle.text.proofs.Filled.{HoldsAt, Filled, filled, Known, Named, Sound}
 use Rattle.reading.proofs.Rows.{Rows, last, next, rows}
 
 -- What a form makes sure of.
-abbrev SoundAt : Option Line → Type 0
+abbrev pub SoundAt : Option Line → Type 0
 SoundAt none = Unit
 SoundAt (some x) = Sound x
 

@@ -22,12 +22,11 @@ use Rattle.program.proofs.Keys.{IsWord, single, double}
 use Rattle.text.specs.Forms as Form
 use Rattle.text.specs.Forms.{Line, Blank, Label, Declared, Acts, variableName, Parts, noParts, naming, Slot, Is, New, Written, Start, put, word, takes, fill, form, forms, byForm, statement, reading}
 use Rattle.text.specs.Faults.{longLine, badForm, bigLiteral, reservedName, bigIn, declares, heard}
-use Rattle.reading.specs.Code.{saidBy, readingOf}
+use Rattle.reading.specs.Code.{saidBy, readingOf, spaces, head, kindBy, keyAfter, headBy, headOf, declaring}
 use Rattle.text.proofs.Words.{variable-word}
 use Rattle.text.proofs.Filled.{goOn, HoldsAt, Filled, done, step, nothing, started, filled}
 use Rattle.text.specs.Tokens.{printable, Token, uncommented, joins, ontoFirstToken, tokens}
 use Rattle.text.proofs.Packing.{joins-space}
-use Rattle.reading.specs.Code.{spaces, head, kindBy, keyAfter, headBy, headOf, declaring}
 
 -- One character at a time: the comment, the tokens, the spaces.
 module _ (c : ℕ) (cs : List ℕ) where
