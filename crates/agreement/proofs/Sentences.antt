@@ -14,13 +14,13 @@ use Rattle.program.specs.Names.{Name, twoCharacters, userName}
 use Rattle.text.specs.Tokens.{Token}
 use Rattle.text.specs.Forms.{Slot, Is, New, Target, Written, Left, Right, Start, Operating, Comparing, Parts, naming, writing, operating, comparing, Taken, took, put, word, sign, takes, operatorMeant, comparisonMeant, variableName}
 use Rattle.events.specs.Events.{eventAt, eventCount, badEvent, badEvents, goodEvent}
-use Rattle.events.proofs.Scripts.{none-below}
+use Rattle.numbers.proofs.Tests.{none-below}
 
 -- Events 2: in a script without a bad event turns never fall.
 pub turns-rise : (s : List ℕ) (k : ℕ) → badEvents s ≡ false → suc k < eventCount s → eventAt s k .turn ≤ eventAt s (suc k) .turn
 unfolding badEvents badEvent
 turns-rise s k h l =
-    let fine : badEvent s (suc k) ≡ false = none-below (badEvent s) (eventCount s) (suc k) h l in
+    let fine : badEvent s (suc k) ≡ false = none-below (badEvent s) (eventCount s) h (suc k) l in
     let low : (leb 1 (suc k) && ltb (eventAt s (suc k) .turn) (eventAt s (suc k - 1) .turn)) ≡ false = neither (not (goodEvent (eventAt s (suc k)))) _ fine .1 in
     let one : leb 1 (suc k) ≡ true = le-leb 1 (suc k) (omega arith) in
     let back : suc k - 1 ≡ k = omega arith in

@@ -1,7 +1,7 @@
 -- What is listed, one after the other: the start values of an image, and the events of a script from a number on.
 -- Assumes nothing.
 use mathlib.Core.Path.{_≡_, refl, sym, ap, _∙_}
-use mathlib.Core.Bool.{Bool, true, false, cond, _||_, not}
+use mathlib.Core.Bool.{false, not}
 use mathlib.Core.List.{List, [], _∷_}
 use Prim.Native.Nat.{ℕ, zero, suc, _+_, _-_, _%_, _≤_, _<_}
 use native.Mathlib.Nat.{sub-zero}
@@ -13,6 +13,8 @@ use lib.IntN.{ℤ, pos}
 use lib.ListN.{length, getD, set, take}
 use lib.Seq.{take-all}
 use Rattle.numbers.specs.Tests.{listed}
+use Rattle.numbers.proofs.Truth.{neither}
+use Rattle.numbers.proofs.Tests.{length-listed, listed-at}
 use Rattle.image.specs.Layout.{variableCount, startValue, startValues}
 use Rattle.machine.specs.declared.Machine.{Machine}
 use Rattle.events.specs.declared.Event.{Event}
@@ -28,28 +30,15 @@ use Rattle.machine.proofs.Traces.{next-reached}
 use Rattle.machine.proofs.Starting.{start-more}
 use Rattle.running.specs.Code.{eventsFrom, DueBefore}
 
--- How long a list is that has f at each number, and what stands in it.
-module _ {A : Type 0} (f : ℕ → A) where
-  length-listed : (n from : ℕ) → length (listed from n f) ≡ n
-  unfolding listed
-  length-listed zero from = refl
-  length-listed (suc n) from = ap suc (length-listed n (suc from))
-
-  at-listed : (n from k : ℕ) (d : A) → k < n → getD (listed from n f) k d ≡ f (from + k)
-  unfolding listed
-  at-listed zero from k d h = absurd (omega arith)
-  at-listed (suc n) from zero d h = let e : from + 0 ≡ from = omega arith in rw e
-  at-listed (suc n) from (suc k) d h = let e : suc from + k ≡ from + suc k = omega arith in at-listed n (suc from) k d (omega arith) ∙ ap f e
-
 -- The start values of an image, one more at a time.
 module _ (s : List ℕ) where
   length-values : length (startValues s) ≡ variableCount s
   unfolding startValues
-  length-values = length-listed (startValue s) (variableCount s) 0
+  length-values = length-listed (startValue s) 0 (variableCount s)
 
   value-at : (k : ℕ) → k < variableCount s → getD (startValues s) k (pos 0) ≡ startValue s k
   unfolding startValues
-  value-at k h = let e : 0 + k ≡ k = omega arith in at-listed (startValue s) (variableCount s) 0 k (pos 0) h ∙ ap (startValue s) e
+  value-at k h = let e : 0 + k ≡ k = omega arith in listed-at (startValue s) (pos 0) 0 (variableCount s) k h ∙ ap (startValue s) e
 
   pub started-more : (k : ℕ) {m m′ : Machine} {z : ℤ} → k < variableCount s → m ≡ startMachine (take k (startValues s)) → z ≡ startValue s k
       → m′ ≡ withVariables (set (m .variables) (32 + k) z) m → m′ ≡ startMachine (take (k + 1) (startValues s))
@@ -59,16 +48,12 @@ module _ (s : List ℕ) where
   pub started-all : (k : ℕ) {m : Machine} → variableCount s ≤ k → m ≡ startMachine (take k (startValues s)) → m ≡ startMachine (startValues s)
   started-all k h e = e ∙ ap startMachine (take-all k (startValues s) (rw length-values h))
 
-either-false : (x y : Bool) → (x || y) ≡ false → y ≡ false
-either-false false y e = e
-either-false true y e = cc
-
 -- The events of a script, one fewer at a time.
 module _ (s : List ℕ) where
   -- Refusals 16: a script that is not bad has few events.
   pub few-events : badScript s ≡ false → eventCount s ≤ 4096
   unfolding badScript
-  few-events e = ltb-false 4096 (eventCount s) (either-false (not (eqb (length s % 12) 0)) (ltb 4096 (eventCount s)) e)
+  few-events e = ltb-false 4096 (eventCount s) (neither (not (eqb (length s % 12) 0)) (ltb 4096 (eventCount s)) e .1)
 
   pub events-all : eventsFrom s 0 ≡ events s
   unfolding eventsFrom events

@@ -6,7 +6,8 @@ use Prim.Native.Nat.{ℕ, _-_, _≤_, _<_}
 use native.Mathlib.Omega.{arith}
 use borrow.Author.Needs.{needs}
 use Rattle.events.specs.Events.{badEvent, eventCount, firstBadEvent}
-use Rattle.events.proofs.Scripts.{first-none, first-here, none-more}
+use Rattle.numbers.proofs.Tests.{first-none, first-here}
+use borrow.Author.Count.{below-more}
 use Rattle.events.proofs.script.first_bad_event.Statement.{statement}
 use Rattle.events.proofs.script.first_bad_event.Tie as tie
 
@@ -38,7 +39,7 @@ loop-less : tie.Need-loop-less Inv-loop μ-loop
 loop-less c = omega arith
 
 loop-again : tie.Need-loop-again Inv-loop μ-loop
-loop-again c = (omega arith, none-more _ _ (c .before .before .before .loop .inv .1) (sym (c .before .is-bad-event .ensures) ∙ c .if1 .left))
+loop-again c = (omega arith, below-more _ _ (c .before .before .before .loop .inv .1) (sym (c .before .is-bad-event .ensures) ∙ c .if1 .left))
 
 returns-2 : tie.Need-returns-2 Inv-loop μ-loop
 unfolding firstBadEvent
