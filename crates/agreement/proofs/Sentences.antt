@@ -10,6 +10,7 @@ use borrow.Author.Tests.{lt-leb, le-leb, ltb-false}
 use lib.Dec.{leb, ltb}
 use Rattle.numbers.specs.Tests.{eqList}
 use Rattle.numbers.proofs.Truth.{neither}
+use Rattle.numbers.proofs.Tests.{none-below}
 use Rattle.program.specs.Names.{Name, twoCharacters, userName}
 use Rattle.text.specs.Tokens.{Token}
 use Rattle.text.specs.Forms.{Slot, Is, New, Target, Written, Left, Right, Start, Operating, Comparing, Parts, naming, writing, operating, comparing, Taken, took, put, word, sign, takes, operatorMeant, comparisonMeant, variableName}
@@ -19,7 +20,6 @@ use Rattle.machine.specs.declared.Event.{Event}
 use Rattle.machine.specs.Turn.{turn}
 use Rattle.machine.specs.Events.{eventAt, eventCount, badEvent, badEvents, goodEvent, recordBytes}
 use Rattle.machine.specs.Run.{runFrom, reach, after, ended}
-use Rattle.machine.proofs.Scripts.{none-below}
 
 -- Turn 7: before the end and with turns left, the events of the turn act, then just one statement; the run goes on from there, or stops.
 module _ (act : Machine → Effect) (cells left t : ℕ) (es : List Event) (m : Machine) (inside : m .next < cells) where
@@ -42,7 +42,7 @@ module _ (act : Machine → Effect) (cells left t : ℕ) (es : List Event) (m : 
 pub turns-rise : (s : List ℕ) (k : ℕ) → badEvents s ≡ false → suc k < eventCount s → eventAt s k .turn ≤ eventAt s (suc k) .turn
 unfolding badEvents badEvent
 turns-rise s k h l =
-    let fine : badEvent s (suc k) ≡ false = none-below (badEvent s) (eventCount s) (suc k) h l in
+    let fine : badEvent s (suc k) ≡ false = none-below (badEvent s) (eventCount s) h (suc k) l in
     let low : (leb 1 (suc k) && ltb (eventAt s (suc k) .turn) (eventAt s (suc k - 1) .turn)) ≡ false = neither (not (goodEvent (eventAt s (suc k)))) _ fine .1 in
     let one : leb 1 (suc k) ≡ true = le-leb 1 (suc k) (omega arith) in
     let back : suc k - 1 ≡ k = omega arith in
