@@ -10,6 +10,7 @@ use borrow.Author.Tests.{le-leb, ltb-false}
 use lib.Dec.{leb, ltb}
 use Rattle.numbers.specs.Tests.{eqList}
 use Rattle.numbers.proofs.Truth.{neither}
+use Rattle.numbers.proofs.Tests.{none-below}
 use Rattle.program.specs.Names.{Name, twoCharacters, userName}
 use Rattle.text.specs.Tokens.{Token}
 use Rattle.text.specs.Forms.{Slot, Is, New, Target, Written, Left, Right, Start, Operating, Comparing, Parts, naming, writing, operating, comparing, Taken, took, put, word, sign, takes, operatorMeant, comparisonMeant, variableName}

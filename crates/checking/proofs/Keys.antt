@@ -15,7 +15,9 @@ use Rattle.numbers.specs.Tests.{eqList}
 use Rattle.numbers.proofs.Laws.{Bytes, there-and-back, bytes-field, field-below}
 use Rattle.program.specs.Names.{letter, digit, wordCharacter, reserved, twoCharacters, userName}
 use Rattle.program.specs.Code.{nameOf}
-use Rattle.program.proofs.Keys.{both, either, same-test, two-bytes, eqList-refl, eqList-eq, user-bytes}
+use Rattle.numbers.proofs.Truth.{both, either, same-test}
+use Rattle.numbers.proofs.Tests.{eqList-refl, eqList-eq}
+use Rattle.program.proofs.Keys.{two-bytes, user-bytes}
 use Rattle.image.specs.Layout.{imageLength, cellCount, labelCount, variableCount, labelPlace, variablePlace, nameAt}
 use Rattle.image.specs.Check.{recordPlace, recordName, badName}
 use Rattle.image.proofs.Any.{same-search, told-true, told-false}

@@ -25,6 +25,11 @@ use Rattle.image.specs.Layout.{labelCount, variableCount, cellAt, operandAt, la
 use Rattle.image.specs.Check.{Use, uses, layouts, fits, goodWritten, goodSelector, goodOperand, goodTarget}
 use Rattle.listing.proofs.Cells.{Fit, fitting}
 
+-- One row of a table and those behind it.
+infixr 5 _then_
+_then_ : {A B : Type 0} → A → B → A × B
+a then b = (a, b)
+
 -- A statement of an image: what it writes is there and not read-only, what it reads is there, what it names has a label.
 module _ (s : List ℕ) where
   abbrev pub Written : ℕ → Type 0
@@ -238,56 +243,23 @@ module _ (s : List ℕ) where
     pub stands : T (anyOf (fits s (16 * k)) layouts) → Stands (cellAt s k)
     unfolding layouts
     stands t =
-        from-any (fits s (16 * k)) (Stands at) layouts (
-          fit (uses 1 true 0 true false false) (λ f. set-stands (at .written) (at .left) (wrote (f .written)) (left (f .left))),
-          (
-            fit (uses 2 true 7 true true false) (λ f. set-with-stands (at .written) (at .selector) (at .left) (at .right) (wrote (f .written)) (chooses 7 refl (f .selector)) (left (f .left)) (right (f .right))),
-            (
-              fit (uses 3 true 0 false false false) (λ f. IC-stands (at .written) (wrote (f .written))),
-              (
-                fit (uses 4 true 0 false false false) (λ f. DC-stands (at .written) (wrote (f .written))),
-                (
-                  fit (uses 5 false 0 false false true) (λ f. BR-stands (at .target) (aims 5 refl (f .target))),
-                  (
-                    fit (uses 5 false 6 true true true) (λ f. BR-if-stands (at .target) (at .selector) (at .left) (at .right) (aims 5 refl (f .target)) (chooses 6 refl (f .selector)) (left (f .left)) (right (f .right))),
-                    (
-                      fit (uses 6 false 0 false false true) (λ f. CL-stands (at .target) (aims 6 refl (f .target))),
-                      (
-                        fit (uses 6 false 6 true true true) (λ f. CL-if-stands (at .target) (at .selector) (at .left) (at .right) (aims 6 refl (f .target)) (chooses 6 refl (f .selector)) (left (f .left)) (right (f .right))),
-                        (
-                          fit (uses 7 false 0 false false false) (λ f. RT-stands),
-                          (
-                            fit (uses 8 false 0 false false false) (λ f. E-stands),
-                            (
-                              fit (uses 9 false 0 false false false) (λ f. H-stands),
-                              (
-                                fit (uses 9 false 0 true false false) (λ f. hold-stands (at .left) (left (f .left))),
-                                (
-                                  fit (uses 10 false 0 false false true) (λ f. arms (f .target)),
-                                  (
-                                    fit (uses 11 false 0 true false false) (λ f. MA-stands (at .left) (left (f .left))),
-                                    (
-                                      fit (uses 12 false 0 true false false) (λ f. MR-stands (at .left) (left (f .left))),
-                                      (
-                                        fit (uses 13 false 0 true false false) (λ f. SL-stands (at .left) (left (f .left))),
-                                        (
-                                          fit (uses 14 false 0 true false false) (λ f. PR-stands (at .left) (left (f .left))),
-                                          tt,
-                                        ),
-                                      ),
-                                    ),
-                                  ),
-                                ),
-                              ),
-                            ),
-                          ),
-                        ),
-                      ),
-                    ),
-                  ),
-                ),
-              ),
-            ),
-          ),
-        )
+        from-any (fits s (16 * k)) (Stands at) layouts
+        (fit (uses 1 true 0 true false false) (λ f. set-stands (at .written) (at .left) (wrote (f .written)) (left (f .left)))
+        then fit (uses 2 true 7 true true false) (λ f. set-with-stands (at .written) (at .selector) (at .left) (at .right) (wrote (f .written)) (chooses 7 refl (f .selector)) (left (f .left)) (right (f .right)))
+        then fit (uses 3 true 0 false false false) (λ f. IC-stands (at .written) (wrote (f .written)))
+        then fit (uses 4 true 0 false false false) (λ f. DC-stands (at .written) (wrote (f .written)))
+        then fit (uses 5 false 0 false false true) (λ f. BR-stands (at .target) (aims 5 refl (f .target)))
+        then fit (uses 5 false 6 true true true) (λ f. BR-if-stands (at .target) (at .selector) (at .left) (at .right) (aims 5 refl (f .target)) (chooses 6 refl (f .selector)) (left (f .left)) (right (f .right)))
+        then fit (uses 6 false 0 false false true) (λ f. CL-stands (at .target) (aims 6 refl (f .target)))
+        then fit (uses 6 false 6 true true true) (λ f. CL-if-stands (at .target) (at .selector) (at .left) (at .right) (aims 6 refl (f .target)) (chooses 6 refl (f .selector)) (left (f .left)) (right (f .right)))
+        then fit (uses 7 false 0 false false false) (λ f. RT-stands)
+        then fit (uses 8 false 0 false false false) (λ f. E-stands)
+        then fit (uses 9 false 0 false false false) (λ f. H-stands)
+        then fit (uses 9 false 0 true false false) (λ f. hold-stands (at .left) (left (f .left)))
+        then fit (uses 10 false 0 false false true) (λ f. arms (f .target))
+        then fit (uses 11 false 0 true false false) (λ f. MA-stands (at .left) (left (f .left)))
+        then fit (uses 12 false 0 true false false) (λ f. MR-stands (at .left) (left (f .left)))
+        then fit (uses 13 false 0 true false false) (λ f. SL-stands (at .left) (left (f .left)))
+        then fit (uses 14 false 0 true false false) (λ f. PR-stands (at .left) (left (f .left)))
+        then tt)
         t

@@ -12,13 +12,13 @@ use lib.ListN.{length}
 use Rattle.numbers.proofs.Truth.{left-of, right-of, both}
 use Rattle.numbers.specs.Bytes.{ascii}
 use Rattle.numbers.specs.Tests.{allOf, eqList}
+use Rattle.numbers.proofs.Tests.{Each}
 use Rattle.program.specs.Names.{Name, digit, twoCharacters, userName}
 use Rattle.program.specs.Statements.{Value, Literal, Variable}
 use Rattle.text.specs.Tokens.{Token, tokens, uncommented, printable}
 use Rattle.text.specs.Forms.{Line, digits, decimal, Taken, took, put, word, sign, literal, variableName, variable, operand, operatorMeant, comparisonMeant, Slot, Is, New, Target, Written, Left, Right, Start, Operating, Comparing, Parts, noParts, naming, writing, onLeft, operating, comparing, onRight, starting, takes, fill, Form, byForm, statement, reading}
 use Rattle.text.specs.Faults.{badForm}
 use Rattle.text.specs.Code.{known, isOperator, isComparison}
-use Rattle.text.proofs.Filled.{Each}
 
 -- 1 to 10 digits.
 abbrev pub figures : Name → Bool

@@ -12,16 +12,15 @@ use lib.ListN.{length, getD}
 use Rattle.numbers.specs.Bytes.{ascii}
 use Rattle.numbers.specs.Tests.{allOf, anyOf}
 use Rattle.numbers.proofs.Truth.{both, both-of, either, left-of, right-of}
-use Rattle.numbers.proofs.Tests.{eqList-eq}
+use Rattle.numbers.proofs.Tests.{eqList-eq, Each}
 use Rattle.program.specs.Names.{Name, letter, digit}
-use Rattle.program.proofs.Keys.{IsWord, single, double, two-word, user-word}
+use Rattle.program.proofs.Keys.{IsWord, two-word, user-word, single, double}
 use Rattle.text.specs.Lines.{lines}
 use Rattle.text.specs.Tokens.{Token, tokens, uncommented}
 use Rattle.text.specs.Forms.{Line, digits, variableName, Slot, Is, New, Target, Written, Left, Right, Start, Operating, Comparing, Parts, Form, forms, statement}
 use Rattle.text.specs.Faults.{badForm}
 use Rattle.text.proofs.Words.{variable-word}
 use Rattle.text.proofs.Signs.{operator-word, comparison-word}
-use Rattle.text.proofs.Filled.{Each}
 use Rattle.refusals.proofs.Rows.{lineAt, has, row-3}
 use Rattle.refusals.proofs.Slots.{figures, suits, asked, Took, one, two, Fits, done, step, by-form, no-form}
 

@@ -14,7 +14,7 @@ use Rattle.numbers.proofs.Truth.{is-true, is-no, not-same, both, either}
 use Rattle.numbers.proofs.Tests.{eqList-eq}
 use Rattle.program.specs.Names.{Name, paperVariable, userName}
 use Rattle.program.specs.Code.{key, nameOf}
-use Rattle.program.proofs.Keys.{Character, Characters, IsWord, single, double, word-of, name-key, name-one, name-two, one-or-two, key-positive, eq-key-name, user-word, paper-word, numbered-word, isWord}
+use Rattle.program.proofs.Keys.{Character, Characters, IsWord, word-of, name-key, name-one, name-two, one-or-two, key-positive, eq-key-name, user-word, paper-word, numbered-word, isWord, single, double}
 use Rattle.text.specs.Tokens as Paper
 use Rattle.text.specs.Tokens.{printable, uncommented, joins, ontoFirstToken, tokens}
 use Rattle.text.specs.Forms.{variableName}

@@ -19,7 +19,7 @@ use Rattle.program.specs.Names.{Name, letter, wordCharacter, paperVariable, res
 use Rattle.program.specs.Code.{key, nameOf}
 use Rattle.program.specs.Cells.{noTarget}
 use Rattle.program.specs.declared.Cell.{Cell}
-use Rattle.program.proofs.Keys.{IsWord, single, double, name-key, user-word}
+use Rattle.program.proofs.Keys.{IsWord, name-key, user-word, single, double}
 use Rattle.text.specs.Lines.{lines}
 use Rattle.text.specs.Forms.{Line, Blank, Label, Declared, Acts}
 use Rattle.text.specs.Faults.{heard, said, placeOf, rankOf, numberOf}
