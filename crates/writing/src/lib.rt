@@ -4,7 +4,7 @@
 // A function that adds to a page takes how many bytes the page holds, `held`, and answers how many it holds then.
 
 // How many bytes a line and a page have room for.
-const LINE: usize = 2048;
+pub const LINE: usize = 2048;
 
 pub const PAGE: usize = 1048576;
 
@@ -121,6 +121,16 @@ impl Line {
         self.byte(hex_digit(b))
     }
 
+    // The lower bytes of a number, the lowest first.
+    pub fn field(mut self, n: u64, width: usize) -> Line {
+        let mut rest = n;
+        for _ in 0..width {
+            self = self.byte((rest % 256) as u8);
+            rest /= 256;
+        }
+        self
+    }
+
     pub fn end(self) -> Line {
         self.byte(b'\n')
     }
@@ -146,7 +156,8 @@ pub fn held_on<'a>(page: &'a Page, held: usize) -> &'a [u8] {
     parts::front(page, held)
 }
 
-fn put_byte(page: &mut Page, held: usize, b: u8) -> usize {
+// Adds a byte to a page.
+pub fn put_byte(page: &mut Page, held: usize, b: u8) -> usize {
     if held < PAGE {
         page[held] = b;
         return held + 1;
