@@ -1,0 +1,17 @@
+-- `help` is safe and ends.
+-- Assumes nothing.
+use Prim.Native.Nat.{_-_}
+use borrow.Author.Needs.{needs}
+use Rattle.telling.proofs.help.Statement.{statement}
+use Rattle.telling.proofs.help.Tie as tie
+
+abbrev Inv-loop : tie.InvT-loop
+Inv-loop page₀ held₀ i₀ page held i = Unit {0}
+
+abbrev μ-loop : tie.MeasureT-loop
+μ-loop page₀ held₀ i₀ page held i = 1364 - i
+
+pub help-spec : {M : Type 1} → statement M
+help-spec =
+    tie.close
+    (tie.spec Inv-loop μ-loop (search needs) (search needs) (search needs) (search needs) (search needs) (search needs) (search needs))
