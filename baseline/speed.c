@@ -1,4 +1,4 @@
-/* Repeats one of the calls on the largest program and prints a checksum: the same work, and the same line, as the program `speed`. */
+/* Repeats one of the calls and prints a checksum: the same work, and the same line, as the program `speed`. */
 #include "bench.h"
 
 enum { TEXT = 16384, TURNS = 4096, EVENT = 12, BLOCKS = 32, CELL_LINE = 37, NAME_LINE = 36 };
@@ -58,6 +58,11 @@ static void put_event(u8 *at, u32 k) {
     at[9] = value / 256;
 }
 
+/* A program that calls eight deep and returns, again and again. */
+static const char calls[] =
+    "LB AA\nCL AB\nBR AA\nLB AB\nCL AC\nRT\nLB AC\nCL AD\nRT\nLB AD\nCL AE\nRT\nLB AE\nCL AF\nRT\n"
+    "LB AF\nCL AG\nRT\nLB AG\nCL AH\nRT\nLB AH\nCL AI\nRT\nLB AI\nRT\n";
+
 static u64 mixed(u64 sum, u64 x) { return (sum * 31 + x) % 4294967291u; }
 
 static u64 mixed_bytes(u64 sum, const u8 *bytes, u32 count) {
@@ -90,10 +95,10 @@ static u64 check_times(u32 n) {
     return mixed_bytes(sum, image, sizeof image);
 }
 
-static u64 run_times(u32 n) {
+static u64 run_times(u32 n, u32 length, u32 event_bytes) {
     u64 sum = 1;
     while (n--) {
-        struct ran r = run(image, sizeof image, events, sizeof events, TURNS, records, sizeof records);
+        struct ran r = run(image, length, events, event_bytes, TURNS, records, sizeof records);
         sum = mixed(mixed(mixed(mixed(mixed(sum, r.number), r.index), r.reason), r.turns), r.records);
         sum = mixed_state(sum, &r.state);
     }
@@ -106,7 +111,7 @@ static int same(const char *a, const char *b) {
 }
 
 int main(int count, char **words) {
-    static const char usage[] = "usage: speed translate|check|run N\n";
+    static const char usage[] = "usage: speed translate|check|run|calls N\n";
     char line[24];
     u32 n = 0, at = sizeof line;
     u64 sum;
@@ -119,7 +124,11 @@ int main(int count, char **words) {
     good &= *digit == 0;
     if (good && same(words[1], "translate")) sum = translate_times(n);
     else if (good && same(words[1], "check")) { translate(text, TEXT, image, sizeof image); sum = check_times(n); }
-    else if (good && same(words[1], "run")) { translate(text, TEXT, image, sizeof image); sum = run_times(n); }
+    else if (good && same(words[1], "run")) { translate(text, TEXT, image, sizeof image); sum = run_times(n, sizeof image, sizeof events); }
+    else if (good && same(words[1], "calls")) {
+        struct translated t = translate((const u8 *)calls, sizeof calls - 1, image, sizeof image);
+        sum = run_times(n, t.length, 0);
+    }
     else { write(2, usage, sizeof usage - 1); return 0; }
     line[--at] = '\n';
     do line[--at] = '0' + sum % 10; while (sum /= 10);

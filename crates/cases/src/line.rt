@@ -1,58 +1,43 @@
-// The line that is being written. Its bytes wait in an array, which goes out whenever it is full and at the line's end.
-//
-// A function that puts something takes how many bytes wait, `held`, and answers how many wait then.
+// The line of an answer, number by number. What it holds goes out whenever it is long, and at its end.
+use bench::Ran;
+use bench::State;
 use libc::STDOUT_FILENO;
-ghost use mathlib.Core.Path.{_≡_};
-ghost use Prim.Native.Nat.{_≤_, _<_};
-ghost use lib.IntN.{natAbs};
-ghost use Rattle.io.specs.Counts.{Counts};
-
-const SIZE: usize = 65536;
-
-pub type Line = [u8; SIZE];
+use writing::Line;
+ghost use Prim.Native.Nat.{_≤_};
 
 // What a lent buffer is filled with before a call.
 pub const FILLER: u8 = 0xAA;
 
-pub fn byte(line: &mut Line, held: usize, b: u8) -> usize {
-    if held < SIZE {
-        line[held] = b;
-        return held + 1;
+// A line that holds so much is written before more is put to it.
+const LONG: usize = 1024;
+
+// The numbers of the variables that a line shows, in two spans, each from its start to before its end.
+const FIXED_START: usize = 1;
+
+const FIXED_END: usize = 21;
+
+const USER_START: usize = 32;
+
+const USER_END: usize = 64;
+
+// Writes what a line holds; false where that cannot be written.
+fn write(line: Line) -> bool {
+    let bytes = line.bytes;
+    io::write_all(STDOUT_FILENO, writing::held_in(&bytes, line.held))
+}
+
+// A line with room for more.
+fn roomy(line: Line) -> Line {
+    if line.held < LONG {
+        return line;
     }
-    io::write_all(STDOUT_FILENO, line);
-    line[0] = b;
-    1
+    write(line);
+    Line::empty()
 }
 
-fn bytes(line: &mut Line, held: usize, values: &[u8]) -> usize {
-    let mut at = held;
-    for i in 0..values.len() {
-        at = byte(line, at, values[i]);
-    }
-    at
-}
-
-// The byte `before`, and a number in decimal.
-pub fn number(line: &mut Line, held: usize, before: u8, n: u64) -> usize {
-    let mut text = [0u8; 20];
-    let count = io::decimal(n, &mut text);
-    let at = byte(line, held, before);
-    bytes(line, at, &text[..count])
-}
-
-pub fn signed(line: &mut Line, held: usize, before: u8, z: i32) -> usize {
-    if z < 0 {
-        let at = byte(line, held, before);
-        return number(line, at, b'-', size(z));
-    }
-    number(line, held, before, size(z))
-}
-
-// A number without its sign.
-fn size(z: i32) -> u64
-    ensures { λ r. ⌜ r ≡ natAbs z ⌝ }
-{
-    if z < 0 { ((!z) as u64) + 1 } else { z as u64 }
+// A space, and a number in decimal.
+pub fn number(line: Line, n: u64) -> Line {
+    line.byte(b' ').number(n)
 }
 
 // What stands before the number at i of a list: `before` at its start, and a comma from there on.
@@ -60,78 +45,84 @@ fn separator(before: u8, start: usize, i: usize) -> u8 {
     if i == start { before } else { b',' }
 }
 
-pub fn places(line: &mut Line, held: usize, values: [u16; 8]) -> usize {
-    let mut at = held;
+fn place(line: Line, before: u8, value: u16) -> Line {
+    line.byte(before).number(value as u64)
+}
+
+fn places(mut line: Line, values: [u16; 8]) -> Line {
     for i in 0..8 {
-        at = number(line, at, separator(b' ', 0, i), values[i] as u64);
+        line = place(line, separator(b' ', 0, i), values[i]);
     }
-    at
+    line
 }
 
 // The variables from number `start` to before `end`.
-pub fn variables(
-    line: &mut Line,
-    held: usize,
-    before: u8,
-    values: [i32; 64],
-    start: usize,
-    end: usize,
-) -> usize
+fn variables(mut line: Line, before: u8, values: [i32; 64], start: usize, end: usize) -> Line
     requires { ⌜ end ≤ 64 ⌝ }
 {
-    let mut at = held;
     for i in start..end {
-        at = signed(line, at, separator(before, start, i), values[i]);
+        line = line.byte(separator(before, start, i)).signed(values[i]);
     }
-    at
+    line
 }
 
-// A lent buffer after the call, behind a space: its bytes up to the last that is no filler, a full stop, and how many fillers follow.
-pub fn contents(line: &mut Line, held: usize, buffer: &[u8]) -> usize {
+pub fn ran(mut line: Line, ran: Ran) -> Line {
+    let end = ran.state;
+    line = number(line, ran.number as u64);
+    line = number(line, ran.index as u64);
+    line = number(line, ran.reason as u64);
+    line = number(line, ran.turns);
+    line = number(line, ran.records as u64);
+    state(line, end)
+}
+
+fn state(mut line: Line, state: State) -> Line {
+    let kept = state.places;
+    let values = state.variables;
+    line = number(line, state.next as u64);
+    line = number(line, state.kept as u64);
+    line = places(line, kept);
+    line = motion(line, state.handler, state.hold, state.motion, state.value);
+    line = variables(line, b' ', values, FIXED_START, FIXED_END);
+    variables(line, b',', values, USER_START, USER_END)
+}
+
+fn motion(mut line: Line, handler: u16, hold: u32, motion: u8, value: i32) -> Line {
+    line = number(line, handler as u64);
+    line = number(line, hold as u64);
+    line = number(line, motion as u64);
+    line.byte(b' ').signed(value)
+}
+
+// Ends a line with a lent buffer as it is after the call: behind a space its bytes up to the last that is no filler, a full stop, and how many
+// fillers follow.
+pub fn contents(mut line: Line, buffer: &[u8]) -> bool {
     let count = used(buffer);
-    let mut at = byte(line, held, b' ');
-    at = hex(line, at, &buffer[..count]);
-    number(line, at, b'.', (buffer.len() - count) as u64)
+    line = hex(line.byte(b' '), parts::front(buffer, count));
+    end(
+        line.byte(b'.')
+            .number(parts::back(buffer, count).len() as u64),
+    )
 }
 
-fn used(buffer: &[u8]) -> usize
-    ensures { λ r. ⌜ Counts r (now (buffer .entry)) ⌝ }
-{
-    let mut count = buffer.len();
-    while 0 < count {
-        if buffer[count - 1] != FILLER {
-            return count;
+fn used(buffer: &[u8]) -> usize {
+    let mut count: usize = 0;
+    for i in 0..buffer.len() {
+        if buffer[i] != FILLER {
+            count = i + 1;
         }
-        count -= 1;
     }
-    0
+    count
 }
 
-fn hex(line: &mut Line, held: usize, values: &[u8]) -> usize {
-    let mut at = held;
+fn hex(mut line: Line, values: &[u8]) -> Line {
     for i in 0..values.len() {
-        let b = values[i];
-        at = byte(line, at, digit(b / 16));
-        at = byte(line, at, digit(b % 16));
+        line = roomy(line).hex(values[i]);
     }
-    at
+    line
 }
 
-fn digit(n: u8) -> u8
-    requires { ⌜ n < 16 ⌝ }
-{
-    if n < 10 { b'0' + n } else { b'a' + (n - 10) }
-}
-
-// Ends the line and writes what waits; false where that cannot be written.
-pub fn end(line: &mut Line, held: usize) -> bool {
-    let count = byte(line, held, b'\n');
-    write_first(line, count)
-}
-
-fn write_first(text: &[u8], count: usize) -> bool {
-    if text.len() < count {
-        return false;
-    }
-    io::write_all(STDOUT_FILENO, &text[..count])
+// Ends the line and writes it; false where that cannot be written.
+pub fn end(line: Line) -> bool {
+    write(line.end())
 }

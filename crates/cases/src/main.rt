@@ -2,14 +2,14 @@
 // bytes of its two parts; a request that is broken gets the line `E`, and the program stops.
 mod line;
 
-use bench::Ran;
-use bench::State;
 use libc::STDIN_FILENO;
 use libc::STDOUT_FILENO;
-use line::FILLER;
-use line::Line;
+use writing::Line;
 
 const HEADER_SIZE: usize = 20;
+
+// The longest part, and the largest buffer that is lent.
+const ROOM: usize = 65536;
 
 // The kinds of request.
 const TRANSLATE: usize = 1;
@@ -17,15 +17,6 @@ const TRANSLATE: usize = 1;
 const CHECK: usize = 2;
 
 const RUN: usize = 3;
-
-// The numbers of the variables that a line shows, in two spans, each from its start to before its end.
-const FIXED_START: usize = 1;
-
-const FIXED_END: usize = 21;
-
-const USER_START: usize = 32;
-
-const USER_END: usize = 64;
 
 // A request's header. Its numbers are, by kind:
 //   translate: the text's length, 0, the size of the image buffer, 0
@@ -40,18 +31,18 @@ struct Header {
 }
 
 impl Header {
-    fn of(b: &[u8; HEADER_SIZE]) -> Header {
+    fn of(b: &[u8]) -> Header {
         Header {
-            kind: number(b[0], b[1], b[2], b[3]),
-            n1: number(b[4], b[5], b[6], b[7]),
-            n2: number(b[8], b[9], b[10], b[11]),
-            n3: number(b[12], b[13], b[14], b[15]),
-            n4: number(b[16], b[17], b[18], b[19]),
+            kind: numbers::read4(b, 0) as usize,
+            n1: numbers::read4(b, 4) as usize,
+            n2: numbers::read4(b, 8) as usize,
+            n3: numbers::read4(b, 12) as usize,
+            n4: numbers::read4(b, 16) as usize,
         }
     }
 
     // The kind is one of the three, and each number that it does not use is 0.
-    fn is_sound(self) -> bool {
+    fn is_of_a_kind(self) -> bool {
         if self.kind == TRANSLATE {
             return (self.n2 == 0) & (self.n4 == 0);
         }
@@ -69,11 +60,11 @@ impl Header {
             self.n4
         }
     }
-}
 
-// Four bytes as a number, the lowest first.
-fn number(b0: u8, b1: u8, b2: u8, b3: u8) -> usize {
-    (b0 as usize) + (b1 as usize) * 256 + (b2 as usize) * 65536 + (b3 as usize) * 16777216
+    // There is room for the parts and for the buffer too.
+    fn is_sound(self) -> bool {
+        self.is_of_a_kind() & (self.n1 <= ROOM) & (self.n2 <= ROOM) & (self.lent() <= ROOM)
+    }
 }
 
 // Writes the line of a broken request, and answers that the program stops.
@@ -83,125 +74,82 @@ fn refuse() -> bool {
 }
 
 // Reads a part of a request; false where the input ends before the part does.
-fn receive(part: &mut [u8]) -> bool {
-    io::read_full(STDIN_FILENO, part) == part.len()
-}
-
-fn fill(buffer: &mut [u8]) {
-    for i in 0..buffer.len() {
-        buffer[i] = FILLER;
-    }
+fn receive(room: &mut [u8], length: usize) -> bool {
+    io::read_full(STDIN_FILENO, parts::lent(room, length)) == length
 }
 
 fn answer_translate(text: &[u8], image: &mut [u8]) -> bool {
     let translated = bench::translate(text, image);
-    let mut line = io::large_buffer();
-    let mut at = line::byte(&mut line, 0, b'T');
-    at = line::number(&mut line, at, b' ', translated.number as u64);
-    at = line::number(&mut line, at, b' ', translated.line as u64);
-    at = line::number(&mut line, at, b' ', translated.length as u64);
-    at = line::contents(&mut line, at, image);
-    line::end(&mut line, at)
+    let mut line = Line::empty().byte(b'T');
+    line = line::number(line, translated.number as u64);
+    line = line::number(line, translated.line as u64);
+    line = line::number(line, translated.length as u64);
+    line::contents(line, image)
 }
 
 fn answer_check(image: &[u8]) -> bool {
     let checked = bench::check(image);
-    let mut line = io::large_buffer();
-    let mut at = line::byte(&mut line, 0, b'C');
-    at = line::number(&mut line, at, b' ', checked.number as u64);
-    line::end(&mut line, at)
+    line::end(line::number(Line::empty().byte(b'C'), checked.number as u64))
 }
 
 fn answer_run(image: &[u8], events: &[u8], budget: u64, records: &mut [u8]) -> bool {
     let ran = bench::run(image, events, budget, records);
-    let mut line = io::large_buffer();
-    let mut at = put_ran(&mut line, ran);
-    at = line::contents(&mut line, at, records);
-    line::end(&mut line, at)
+    line::contents(line::ran(Line::empty().byte(b'R'), ran), records)
 }
 
-fn put_ran(line: &mut Line, ran: Ran) -> usize {
-    let state = ran.state;
-    let mut at = line::byte(line, 0, b'R');
-    at = line::number(line, at, b' ', ran.number as u64);
-    at = line::number(line, at, b' ', ran.index as u64);
-    at = line::number(line, at, b' ', ran.reason as u64);
-    at = line::number(line, at, b' ', ran.turns);
-    at = line::number(line, at, b' ', ran.records as u64);
-    put_state(line, at, state)
-}
-
-fn put_state(line: &mut Line, held: usize, state: State) -> usize {
-    let places = state.places;
-    let variables = state.variables;
-    let mut at = line::number(line, held, b' ', state.next as u64);
-    at = line::number(line, at, b' ', state.kept as u64);
-    at = line::places(line, at, places);
-    at = line::number(line, at, b' ', state.handler as u64);
-    at = line::number(line, at, b' ', state.hold as u64);
-    at = line::number(line, at, b' ', state.motion as u64);
-    at = line::signed(line, at, b' ', state.value);
-    at = line::variables(line, at, b' ', variables, FIXED_START, FIXED_END);
-    line::variables(line, at, b',', variables, USER_START, USER_END)
-}
-
-// Reads the parts of a request, makes its call on them and on the buffer, and writes the answer.
-fn serve(header: Header, first: &mut [u8], second: &mut [u8], lent: &mut [u8]) -> bool {
-    if !receive(first) {
-        return refuse();
-    }
-    if !receive(second) {
-        return refuse();
-    }
-    fill(lent);
-    if header.kind == TRANSLATE {
+// Makes the call of a request on its parts and on the buffer, and writes the answer.
+fn call(kind: usize, budget: u64, first: &[u8], second: &[u8], lent: &mut [u8]) -> bool {
+    if kind == TRANSLATE {
         return answer_translate(first, lent);
     }
-    if header.kind == CHECK {
+    if kind == CHECK {
         return answer_check(first);
     }
-    answer_run(first, second, header.n3 as u64, lent)
+    answer_run(first, second, budget, lent)
 }
 
-// Answers the next request, and whether to go on: not at the end of the input, nor after a broken request. The three arrays are as long as a
-// part or a buffer may be, and the request is served with as much of each as it asks for.
-fn answer(first: &mut [u8], second: &mut [u8], lent: &mut [u8]) -> bool {
+fn call_with(header: Header, first: &[u8], second: &[u8]) -> bool {
+    let mut lent = [line::FILLER; ROOM];
+    call(
+        header.kind,
+        header.n3 as u64,
+        first,
+        second,
+        parts::lent(&mut lent, header.lent()),
+    )
+}
+
+// Reads the parts of a request, and answers it.
+fn serve(header: Header) -> bool {
+    let mut first = io::large_buffer();
+    let mut second = io::large_buffer();
+    let n1 = header.n1;
+    let n2 = header.n2;
+    let got = receive(&mut first, n1);
+    if !(receive(&mut second, n2) & got) {
+        return refuse();
+    }
+    call_with(header, parts::front(&first, n1), parts::front(&second, n2))
+}
+
+// Answers the next request, and whether to go on: not at the end of the input, nor after a broken request.
+fn answer() -> bool {
     let mut bytes = [0u8; HEADER_SIZE];
     let got = io::read_full(STDIN_FILENO, &mut bytes);
     if got == 0 {
         return false;
     }
     let header = Header::of(&bytes);
-    let n1 = header.n1;
-    let n2 = header.n2;
-    let size = header.lent();
     if (got < HEADER_SIZE) | !header.is_sound() {
         return refuse();
     }
-    if first.len() < n1 {
-        return refuse();
-    }
-    if second.len() < n2 {
-        return refuse();
-    }
-    if lent.len() < size {
-        return refuse();
-    }
-    serve(
-        header,
-        &mut first[..n1],
-        &mut second[..n2],
-        &mut lent[..size],
-    )
+    serve(header)
 }
 
 // A proved loop has to end, and nothing says that the input does. So the loop counts its turns down, from a number that no run uses up.
 fn main() {
-    let mut first = io::large_buffer();
-    let mut second = io::large_buffer();
-    let mut lent = io::large_buffer();
     let mut turns = u64::MAX;
-    while turns > 0 && answer(&mut first, &mut second, &mut lent) {
+    while turns > 0 && answer() {
         turns -= 1;
     }
 }

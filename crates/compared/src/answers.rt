@@ -1,113 +1,80 @@
-// The calls: what a case asks for, what the bench answers, as a line of words and numbers, and whether that is the line that was expected.
+// The calls: what a case asks for, and what the bench answers, as a line of words and numbers.
 //
 // A buffer that is lent is full of the filler before the call. The bytes that a call may not touch, those after the image or the last record
 // and all of them where it refuses, are counted as `changed` where they are no longer that.
-use crate::buffer;
-use crate::buffer::Buffer;
 use crate::described;
-use crate::described::FILLER;
-use crate::words;
-use libc::STDOUT_FILENO;
-ghost use mathlib.Core.Path.{_≡_};
-ghost use lib.ListN.{length};
+use crate::input;
+use writing::Line;
 
-// A call's kind is the number of its word.
-pub struct Call {
-    pub kind: usize,
-    pub budget: u64,
-    pub room: usize,
-}
+const ROOM: usize = 65536;
 
-// Makes the call, writes the case's line, and says whether the answer is the one that was expected.
-pub fn agrees(name: &[u8], call: Call, text: &[u8], events: &[u8], wanted: &[u8]) -> bool {
-    let mut line = io::large_buffer();
-    let size = call.answer(text, events, &mut line);
-    io::write_all(STDOUT_FILENO, name);
-    compared(buffer::front(&line, size), wanted)
-}
-
-fn compared(got: &[u8], wanted: &[u8]) -> bool {
-    if words::same(got, wanted) {
-        io::write_all(STDOUT_FILENO, b": as expected\n");
-        return true;
-    }
-    tell_apart(got, wanted);
-    false
-}
-
-fn tell_apart(got: &[u8], wanted: &[u8]) {
-    io::write_all(STDOUT_FILENO, b": NOT as expected, got: ");
-    io::write_all(STDOUT_FILENO, got);
-    io::write_all(STDOUT_FILENO, b"; wanted: ");
-    io::write_all(STDOUT_FILENO, wanted);
-    io::write_all(STDOUT_FILENO, b"\n");
-}
-
-impl Call {
-    // Puts the answer down.
-    fn answer(self, text: &[u8], events: &[u8], line: &mut Buffer) -> usize {
-        let kind = self.kind;
-        match kind {
-            words::TRANSLATE => translate(text, self.room, line),
-            words::IMAGE => image(text, line),
-            words::CHECK => check(text, events, line),
-            _ => run(text, events, self.budget, self.room, line),
-        }
+pub fn answer(call: &[u8], text: &[u8], events: &[u8]) -> Line {
+    let rest = input::rest(call);
+    let first = input::number(parts::word(rest));
+    match input::kind(call) {
+        input::TRANSLATE => translate(text, first as usize),
+        input::IMAGE => image(text),
+        input::CHECK => check(text, events),
+        _ => run(
+            text,
+            events,
+            first,
+            input::number(parts::word(parts::behind(rest))) as usize,
+        ),
     }
 }
 
-fn translate(text: &[u8], room: usize, line: &mut Buffer) -> usize {
-    let mut image = filled();
-    let size = words::within(room, &image);
-    let answer = bench::translate(text, &mut image[..size]);
-    let length = answer.length;
-    let at = put_translated(line, answer);
-    described::put_changed(line, at, &image, length)
+fn translate(text: &[u8], room: usize) -> Line {
+    let mut image = [described::FILLER; ROOM];
+    let answer = bench::translate(text, parts::lent(&mut image, room));
+    let line = translated(answer);
+    described::changed(line, parts::back(&image, answer.length))
 }
 
-fn put_translated(line: &mut Buffer, answer: bench::Translated) -> usize {
-    let mut at = buffer::named(line, 0, buffer::NUMBER, answer.number as u64);
-    at = buffer::named(line, at, buffer::LINE, answer.line as u64);
-    buffer::named(line, at, buffer::LENGTH, answer.length as u64)
+fn translated(answer: bench::Translated) -> Line {
+    let mut line = described::named(Line::empty(), described::NUMBER, answer.number as u64);
+    line = described::named(line, described::LINE, answer.line as u64);
+    described::named(line, described::LENGTH, answer.length as u64)
 }
 
 // The bytes of a text's image.
-fn image(text: &[u8], line: &mut Buffer) -> usize {
-    let mut image = filled();
+fn image(text: &[u8]) -> Line {
+    let mut image = io::large_buffer();
     let answer = bench::translate(text, &mut image);
-    buffer::put_hex(line, 0, buffer::front(&image, answer.length))
+    described::hex(parts::front(&image, answer.length))
 }
 
 // Where an image is refused, so is its run.
-fn check(image: &[u8], events: &[u8], line: &mut Buffer) -> usize {
+fn check(image: &[u8], events: &[u8]) -> Line {
     let answer = bench::check(image);
-    let at = buffer::named(line, 0, buffer::NUMBER, answer.number as u64);
+    let line = described::named(Line::empty(), described::NUMBER, answer.number as u64);
     if answer.number == 0 {
-        return at;
+        return line;
     }
-    run_refused(image, events, line, at)
-}
-
-fn run_refused(image: &[u8], events: &[u8], line: &mut Buffer, held: usize) -> usize {
-    let mut records = filled();
-    let ran = bench::run(image, events, 1, &mut records);
-    let at = buffer::word(line, held, buffer::RUN);
-    described::put(line, at, ran, &records)
+    ran(
+        described::word(line, described::RUN),
+        image,
+        events,
+        1,
+        ROOM,
+    )
 }
 
 // The run of a text's image.
-fn run(text: &[u8], events: &[u8], budget: u64, room: usize, line: &mut Buffer) -> usize {
+fn run(text: &[u8], events: &[u8], budget: u64, room: usize) -> Line {
     let mut image = io::large_buffer();
-    let mut records = filled();
-    let size = words::within(room, &records);
     let translated = bench::translate(text, &mut image);
-    let whole = buffer::front(&image, translated.length);
-    let answer = bench::run(whole, events, budget, &mut records[..size]);
-    described::put(line, 0, answer, &records)
+    ran(
+        Line::empty(),
+        parts::front(&image, translated.length),
+        events,
+        budget,
+        room,
+    )
 }
 
-fn filled() -> Buffer
-    ensures { λ r. ⌜ 65536 ≡ length r ⌝ }
-{
-    [FILLER; 65536]
+fn ran(line: Line, image: &[u8], events: &[u8], budget: u64, room: usize) -> Line {
+    let mut records = [described::FILLER; ROOM];
+    let ran = bench::run(image, events, budget, parts::lent(&mut records, room));
+    described::ran(line, ran, parts::front(&records, ROOM))
 }

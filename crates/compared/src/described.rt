@@ -2,19 +2,15 @@
 // handler that is none, a variable with the value that it has at the start; where the run is refused, all that is 0. So two runs that differ
 // have different lines. A place stands as `p0=3`, a variable as `ER=104`, a user variable by its number as `32=7`, and a record as
 // `[turn kind number value]`.
-use crate::buffer;
-use crate::buffer::BROKEN;
-use crate::buffer::Buffer;
-use crate::words;
 use bench::Ran;
 use bench::State;
+use events::Event;
+use writing::Line;
 
 const NO_HANDLER: u64 = 65535;
 
-// The names of the paper's variables, by number; there is no variable 0. User variables have no name here.
+// How many variables the paper names. User variables have no name here.
 const FIXED_END: usize = 21;
-
-const RECORD_SIZE: usize = 12;
 
 // As many records as a line shows.
 const SHOWN: usize = 16;
@@ -22,113 +18,161 @@ const SHOWN: usize = 16;
 // A buffer that is lent holds this byte throughout before the call.
 pub const FILLER: u8 = 0xAA;
 
-pub fn put(line: &mut Buffer, held: usize, ran: Ran, records: &Buffer) -> usize {
-    let state = ran.state;
-    let count = ran.records;
-    let number = ran.number;
-    let mut at = put_end(line, held, number, ran.index, ran.reason, ran.turns);
-    at = put_state(line, at, state, number);
-    at = put_records(line, at, records, count);
-    put_changed(line, at, records, bytes_of(count))
+// The words of an answer, by number, each in its column; and behind them the names of the paper's variables, of which there is no variable 0.
+const COLUMN: usize = 8;
+
+const WORDS: [u8; 304] =
+    *b"number  line    length  run     refused index   reason  turns   next    kept    handler hold    motion  value   records zeros   changed ?       R1      R2      R3      R4      P       A       D       VI      VM      ER      O1      O2      O3      MV      EF      I1      I2      I3      I4      IN      ";
+
+pub const NUMBER: usize = 0;
+
+pub const LINE: usize = 1;
+
+pub const LENGTH: usize = 2;
+
+pub const RUN: usize = 3;
+
+const REFUSED: usize = 4;
+
+const INDEX: usize = 5;
+
+const REASON: usize = 6;
+
+const TURNS: usize = 7;
+
+const NEXT: usize = 8;
+
+const KEPT: usize = 9;
+
+const HANDLER: usize = 10;
+
+const HOLD: usize = 11;
+
+const MOTION: usize = 12;
+
+const VALUE: usize = 13;
+
+const RECORDS: usize = 14;
+
+const ZEROS: usize = 15;
+
+const CHANGED: usize = 16;
+
+const VARIABLE: usize = 17;
+
+// A space, unless the line is empty.
+fn gap(line: Line) -> Line {
+    if line.held == 0 {
+        return line;
+    }
+    line.byte(b' ')
 }
 
-fn put_end(
-    line: &mut Buffer,
-    held: usize,
-    number: u8,
-    index: usize,
-    reason: u8,
-    turns: u64,
-) -> usize {
-    let mut at = buffer::part(line, held, buffer::REFUSED, number as u64, 0);
-    at = buffer::part(line, at, buffer::INDEX, index as u64, 0);
-    at = buffer::part(line, at, buffer::REASON, reason as u64, 0);
-    buffer::part(line, at, buffer::TURNS, turns, 0)
+// A word, behind a space.
+pub fn word(line: Line, name: usize) -> Line {
+    let words = WORDS;
+    gap(line).bytes(parts::word(parts::back(&words, name % 64 * COLUMN)))
 }
 
-fn put_state(line: &mut Buffer, held: usize, state: State, refusal: u8) -> usize {
-    let places = state.places;
-    let variables = state.variables;
-    let mut at = put_next(line, held, state.next, state.kept);
-    at = put_places(line, at, &places);
-    at = put_handler(line, at, state.handler, refusal);
-    at = put_motion(line, at, state.hold, state.motion, state.value);
-    put_variables(line, at, &variables, refusal)
+// A word and a number.
+pub fn named(line: Line, name: usize, n: u64) -> Line {
+    word(line, name).byte(b' ').number(n)
 }
 
-fn put_next(line: &mut Buffer, held: usize, next: u16, kept: u8) -> usize {
-    let at = buffer::part(line, held, buffer::NEXT, next as u64, 0);
-    buffer::part(line, at, buffer::KEPT, kept as u64, 0)
+// The same, unless the number is the one that needs no mention.
+fn part(line: Line, name: usize, n: u64, usual: u64) -> Line {
+    if n == usual {
+        return line;
+    }
+    named(line, name, n)
 }
 
-fn put_places(line: &mut Buffer, held: usize, places: &[u16; 8]) -> usize {
-    let mut at = held;
+// Bytes in hexadecimal digits, a space between two.
+pub fn hex(values: &[u8]) -> Line {
+    let mut line = Line::empty();
+    for i in 0..values.len() {
+        line = gap(line).hex(values[i]);
+    }
+    line
+}
+
+pub fn ran(mut line: Line, ran: Ran, records: &[u8]) -> Line {
+    let end = ran.state;
+    line = part(line, REFUSED, ran.number as u64, 0);
+    line = part(line, INDEX, ran.index as u64, 0);
+    line = part(line, REASON, ran.reason as u64, 0);
+    line = part(line, TURNS, ran.turns, 0);
+    line = state(line, end, ran.number != 0);
+    recorded(line, records, ran.records)
+}
+
+fn state(mut line: Line, state: State, refused: bool) -> Line {
+    let kept = state.places;
+    let values = state.variables;
+    line = part(line, NEXT, state.next as u64, 0);
+    line = part(line, KEPT, state.kept as u64, 0);
+    line = places(line, kept);
+    line = handler(line, state.handler as u64, refused);
+    line = motion(line, state.hold, state.motion, state.value);
+    variables(line, values, refused)
+}
+
+fn places(mut line: Line, places: [u16; 8]) -> Line {
     for i in 0..8 {
-        at = put_place(line, at, i, places[i]);
+        line = place(line, i, places[i]);
     }
-    at
+    line
 }
 
-fn put_place(line: &mut Buffer, held: usize, i: usize, place: u16) -> usize {
+fn place(mut line: Line, i: usize, place: u16) -> Line {
     if place == 0 {
-        return held;
+        return line;
     }
-    let mut at = buffer::bytes(line, held, b" p");
-    at = buffer::number(line, at, i as u64);
-    at = buffer::byte(line, at, b'=');
-    buffer::number(line, at, place as u64)
+    line = line.byte(b' ').byte(b'p').number(i as u64);
+    line.byte(b'=').number(place as u64)
 }
 
-fn put_handler(line: &mut Buffer, held: usize, handler: u16, refusal: u8) -> usize {
-    buffer::part(
-        line,
-        held,
-        buffer::HANDLER,
-        handler as u64,
-        no_handler(refusal),
-    )
-}
-
-fn no_handler(refusal: u8) -> u64 {
-    if refusal != 0 {
-        return 0;
+fn handler(line: Line, handler: u64, refused: bool) -> Line {
+    if refused {
+        return part(line, HANDLER, handler, 0);
     }
-    NO_HANDLER
+    part(line, HANDLER, handler, NO_HANDLER)
 }
 
 // The hold left, and the motion with its target or velocity.
-fn put_motion(line: &mut Buffer, held: usize, hold: u32, motion: u8, value: i32) -> usize {
-    let mut at = buffer::part(line, held, buffer::HOLD, hold as u64, 0);
-    at = buffer::part(line, at, buffer::MOTION, motion as u64, 0);
+fn motion(mut line: Line, hold: u32, motion: u8, value: i32) -> Line {
+    line = part(line, HOLD, hold as u64, 0);
+    line = part(line, MOTION, motion as u64, 0);
     if value == 0 {
-        return at;
+        return line;
     }
-    at = buffer::word(line, at, buffer::VALUE);
-    at = buffer::byte(line, at, b' ');
-    buffer::signed(line, at, value)
+    word(line, VALUE).byte(b' ').signed(value)
 }
 
-fn put_variables(line: &mut Buffer, held: usize, values: &[i32; 64], refusal: u8) -> usize {
-    let mut at = held;
+fn variables(mut line: Line, values: [i32; 64], refused: bool) -> Line {
     for i in 0..64 {
-        at = put_variable(line, at, i, values[i], at_start(i, refusal));
+        line = variable(line, i, values[i], at_start(i, refused));
     }
-    at
+    line
 }
 
-fn put_variable(line: &mut Buffer, held: usize, variable: usize, value: i32, usual: i32) -> usize {
+fn variable(line: Line, variable: usize, value: i32, usual: i32) -> Line {
     if value == usual {
-        return held;
+        return line;
     }
-    let mut at = buffer::gap(line, held);
-    at = put_name(line, at, variable);
-    at = buffer::byte(line, at, b'=');
-    buffer::signed(line, at, value)
+    name(line, variable).byte(b'=').signed(value)
+}
+
+fn name(line: Line, variable: usize) -> Line {
+    if FIXED_END <= variable {
+        return gap(line).number(variable as u64);
+    }
+    word(line, VARIABLE + variable)
 }
 
 // What a variable holds at the start, where no VA line says otherwise. Variables 3; Refusals 23.
-fn at_start(variable: usize, refusal: u8) -> i32 {
-    if refusal != 0 {
+fn at_start(variable: usize, refused: bool) -> i32 {
+    if refused {
         return 0;
     }
     match variable {
@@ -140,102 +184,37 @@ fn at_start(variable: usize, refusal: u8) -> i32 {
     }
 }
 
-fn put_name(line: &mut Buffer, held: usize, variable: usize) -> usize {
-    if FIXED_END <= variable {
-        return buffer::number(line, held, variable as u64);
-    }
-    let names = b"? R1 R2 R3 R4 P A D VI VM ER O1 O2 O3 MV EF I1 I2 I3 I4 IN";
-    buffer::bytes(line, held, words::nth(names, variable))
-}
-
-fn put_records(line: &mut Buffer, held: usize, records: &Buffer, count: usize) -> usize {
-    let mut at = buffer::part(line, held, buffer::RECORDS, count as u64, 0);
+// The first records, and what else of the buffer is changed.
+fn recorded(mut line: Line, records: &[u8], count: usize) -> Line {
+    line = part(line, RECORDS, count as u64, 0);
     for i in 0..SHOWN {
-        at = put_record(line, at, records, i, count);
+        if i < count {
+            line = record(line, events::script::event_at(records, i));
+        }
     }
-    at
-}
-
-fn put_record(line: &mut Buffer, held: usize, records: &Buffer, i: usize, count: usize) -> usize {
-    if count <= i {
-        return held;
-    }
-    let mut at = buffer::gap(line, held);
-    at = buffer::byte(line, at, b'[');
-    at = put_fields(line, at, words::from(records, bytes_of(i)));
-    buffer::byte(line, at, b']')
+    changed(
+        line,
+        parts::back(records, events::script::SIZE * (count % 5000)),
+    )
 }
 
 // The turn, the kind, the number and the value of a record; its zeros where they are none.
-fn put_fields(line: &mut Buffer, held: usize, record: &[u8]) -> usize {
-    let mut at = buffer::number(line, held, four_bytes(record));
-    at = put_byte(line, at, record, 4);
-    at = put_byte(line, at, record, 5);
-    at = buffer::byte(line, at, b' ');
-    at = put_signed(line, at, four_bytes(words::from(record, 8)));
-    put_zeros(line, at, record)
+fn record(mut line: Line, record: Event) -> Line {
+    line = gap(line).byte(b'[').number(record.turn as u64);
+    line = line.byte(b' ').number(record.kind as u64);
+    line = line.byte(b' ').number(record.number as u64);
+    line = line.byte(b' ').signed(record.value);
+    part(line, ZEROS, record.zeros as u64, 0).byte(b']')
 }
 
-fn put_byte(line: &mut Buffer, held: usize, record: &[u8], i: usize) -> usize {
-    let at = buffer::byte(line, held, b' ');
-    buffer::number(line, at, buffer::byte_at(record, i) as u64)
+// How many bytes are no longer the filler, where there are any.
+pub fn changed(line: Line, values: &[u8]) -> Line {
+    part(line, CHANGED, count(values), 0)
 }
 
-fn put_zeros(line: &mut Buffer, held: usize, record: &[u8]) -> usize {
-    let at = buffer::part(
-        line,
-        held,
-        buffer::ZEROS,
-        buffer::byte_at(record, 6) as u64,
-        0,
-    );
-    buffer::part(
-        line,
-        at,
-        buffer::ZEROS,
-        buffer::byte_at(record, 7) as u64,
-        0,
-    )
-}
-
-// Four bytes that are read as a signed number.
-fn put_signed(line: &mut Buffer, held: usize, bits: u64) -> usize {
-    if bits < 2147483648 {
-        return buffer::number(line, held, bits);
-    }
-    if 4294967296 <= bits {
-        return buffer::byte(line, held, b'?');
-    }
-    let at = buffer::byte(line, held, b'-');
-    buffer::number(line, at, 4294967296 - bits)
-}
-
-fn four_bytes(values: &[u8]) -> u64 {
-    number(
-        buffer::byte_at(values, 0),
-        buffer::byte_at(values, 1),
-        buffer::byte_at(values, 2),
-        buffer::byte_at(values, 3),
-    )
-}
-
-// Four bytes as a number, the lowest first.
-fn number(b0: u8, b1: u8, b2: u8, b3: u8) -> u64 {
-    (b0 as u64) + (b1 as u64) * 256 + (b2 as u64) * 65536 + (b3 as u64) * 16777216
-}
-
-// The bytes that so many records take; 0 where no run writes so many.
-fn bytes_of(records: usize) -> usize {
-    if records < 5000 {
-        return records * RECORD_SIZE;
-    }
-    0
-}
-
-// How many bytes from `from` on are no longer the filler.
-fn changed(values: &Buffer, from: usize) -> u64 {
-    let mut count = 0;
-    for i in from..BROKEN {
+fn count(values: &[u8]) -> u64 {
+    let mut count: u64 = 0;
+    for i in 0..values.len() {
         count = counted(count, values[i]);
     }
     count
@@ -245,15 +224,6 @@ fn counted(count: u64, b: u8) -> u64 {
     if b == FILLER {
         return count;
     }
-    one_more(count)
-}
-
-// The count of those, where there are any.
-pub fn put_changed(line: &mut Buffer, held: usize, values: &Buffer, from: usize) -> usize {
-    buffer::part(line, held, buffer::CHANGED, changed(values, from), 0)
-}
-
-fn one_more(count: u64) -> u64 {
     if count < u64::MAX {
         return count + 1;
     }

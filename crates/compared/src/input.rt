@@ -1,94 +1,359 @@
-// The lines that add to a text, to an image that is given by its bytes, or to a script of events. An event has twelve bytes: four for its
-// turn, one for its kind, one for its number, two zeros, and four for its value.
-use crate::buffer;
-use crate::buffer::BROKEN;
-use crate::buffer::Buffer;
-use crate::words;
+// The lines of the input, and the texts, images and scripts of events that they make.
+//
+// What is made is put on a page. A page that is full is broken, and stays so: something did not fit, or a line said something wrong.
+use scripts::BAD_FORM;
+use scripts::BIG_NUMBER;
+use writing::Line;
+use writing::Page;
+ghost use Prim.Native.Nat.{_<_};
+ghost use lib.ListN.{length};
 
-pub fn is_event(line: &[u8]) -> bool {
-    let kind = words::kind(words::behind_times(line));
-    (kind == words::EVENT) | (kind == words::RAW)
+pub const BROKEN: usize = writing::PAGE;
+
+// The words that a line starts with, by number, each in its column.
+const COLUMN: usize = 11;
+
+const WORDS: [u8; 176] =
+    *b"#          case       block      translate  image      check      run        gives      from       line       part       bytes      at         translated event      raw        ";
+
+const COUNT: usize = 16;
+
+const SILENT: usize = 0;
+
+const CASE: usize = 1;
+
+const BLOCK: usize = 2;
+
+pub const TRANSLATE: usize = 3;
+
+pub const IMAGE: usize = 4;
+
+pub const CHECK: usize = 5;
+
+pub const RUN: usize = 6;
+
+const GIVES: usize = 7;
+
+const FROM: usize = 8;
+
+const LINE: usize = 9;
+
+const PART: usize = 10;
+
+const BYTES: usize = 11;
+
+const AT: usize = 12;
+
+const TRANSLATED: usize = 13;
+
+const EVENT: usize = 14;
+
+const RAW: usize = 15;
+
+// Where a line stands in the input: its first byte, the place behind its last, and the next line.
+pub struct Span {
+    start: usize,
+    end: usize,
+    pub next: usize,
 }
 
-// Adds a line, as many times as it says.
-pub fn add(buffer: &mut Buffer, held: usize, line: &[u8]) -> usize {
-    let times = words::times(line);
-    if (times == 0) | (65535 < times) {
-        return BROKEN;
+// The line at a place of the input.
+pub fn place(input: &[u8], at: usize) -> Span
+    requires { ⌜ at < length (now input) ⌝ }
+    ensures { λ r. ⌜ at < r .next ⌝ }
+{
+    let found = text::line_at(input, at);
+    Span {
+        start: at,
+        end: found.end,
+        next: found.next,
     }
-    repeat(buffer, held, times, words::behind_times(line))
 }
 
-fn repeat(buffer: &mut Buffer, held: usize, times: u64, line: &[u8]) -> usize {
-    let kind = words::kind(line);
-    let rest = words::rest(line);
-    let mut at = held;
-    for i in 0..times {
-        at = add_once(buffer, at, kind, rest);
+// The same, and an empty line past the input's end.
+pub fn place_or_end(input: &[u8], at: usize) -> Span {
+    if at < input.len() {
+        return place(input, at);
+    }
+    Span {
+        start: at,
+        end: at,
+        next: at,
+    }
+}
+
+pub fn line<'a>(input: &'a [u8], span: Span) -> &'a [u8] {
+    parts::between(input, span.start, span.end)
+}
+
+// What stands behind the first word of a line and its space.
+pub fn rest<'a>(line: &'a [u8]) -> &'a [u8] {
+    parts::back(parts::behind(line), 1)
+}
+
+// The number of a line's first word. It is that of a comment where there is no word, and greater than all where the word is none of these.
+pub fn kind(line: &[u8]) -> usize {
+    let words = WORDS;
+    let word = parts::word(line);
+    if word.len() == 0 {
+        return SILENT;
+    }
+    index(&words, word)
+}
+
+fn index(words: &[u8], word: &[u8]) -> usize {
+    for k in 0..COUNT {
+        if parts::same(parts::word(parts::back(words, k * COLUMN)), word) {
+            return k;
+        }
+    }
+    COUNT
+}
+
+pub fn is_case(line: &[u8]) -> bool {
+    kind(line) == CASE
+}
+
+pub fn is_answer(line: &[u8]) -> bool {
+    kind(line) == GIVES
+}
+
+// A case ends here: at a line that says nothing, or starts the next case or a block.
+pub fn is_end(input: &[u8], at: usize) -> bool {
+    kind(line(input, place_or_end(input, at))) <= BLOCK
+}
+
+// A call, an answer or a head: what a text and its events end with.
+fn ends(kind: usize) -> bool {
+    (CASE <= kind) & (kind <= GIVES)
+}
+
+// The number that a word gives; the greatest where it has too many digits.
+pub fn number(word: &[u8]) -> u64 {
+    let number = scripts::digits(word);
+    if number.fault == BIG_NUMBER {
+        return u64::MAX;
+    }
+    number.size
+}
+
+// The place of the line that ends a text and its events.
+pub fn call(input: &[u8], start: usize) -> Span {
+    let mut at = start;
+    while at < input.len() {
+        let found = place(input, at);
+        if ends(kind(line(input, found))) {
+            return found;
+        }
+        at = found.next;
+    }
+    place_or_end(input, at)
+}
+
+// Where the lines of the block of that name start; the input's end where there is none.
+fn block(input: &[u8], name: &[u8]) -> usize {
+    let mut at: usize = 0;
+    while at < input.len() {
+        let found = place(input, at);
+        at = found.next;
+        if is_block(line(input, found), name) {
+            return at;
+        }
     }
     at
 }
 
-fn add_once(buffer: &mut Buffer, held: usize, kind: usize, rest: &[u8]) -> usize {
-    match kind {
-        words::LINE => line(buffer, held, rest),
-        words::PART => buffer::bytes(buffer, held, rest),
-        words::BYTES => buffer::read_hex(buffer, held, rest),
-        words::RAW => buffer::read_hex(buffer, held, rest),
-        words::EVENT => event(buffer, held, rest),
-        words::AT => edit(buffer, held, rest),
-        words::TRANSLATED => translate(buffer, held),
-        _ => BROKEN,
-    }
+fn is_block(line: &[u8], name: &[u8]) -> bool {
+    (kind(line) == BLOCK) & parts::same(rest(line), name)
 }
 
-fn line(text: &mut Buffer, held: usize, rest: &[u8]) -> usize {
-    let at = buffer::bytes(text, held, rest);
-    buffer::byte(text, at, b'\n')
+// Puts on a page what the lines of a case say: its events alone, or all but those.
+pub fn add(page: &mut Page, input: &[u8], start: usize, of_events: bool) -> usize {
+    let mut held: usize = 0;
+    let mut at = start;
+    while at < input.len() {
+        let found = place(input, at);
+        let said = line(input, found);
+        if ends(kind(said)) {
+            return held;
+        }
+        held = add_line(page, held, input, said, of_events);
+        at = found.next;
+    }
+    held
+}
+
+fn add_line(page: &mut Page, held: usize, input: &[u8], line: &[u8], of_events: bool) -> usize {
+    if kind(line) != FROM {
+        return add_own(page, held, line, of_events);
+    }
+    if of_events {
+        return held;
+    }
+    add_block(page, held, input, block(input, rest(line)))
+}
+
+// Adds the lines of a block.
+fn add_block(page: &mut Page, before: usize, input: &[u8], start: usize) -> usize {
+    let mut held = before;
+    let mut at = start;
+    while at < input.len() {
+        let found = place(input, at);
+        let said = line(input, found);
+        if ends(kind(said)) {
+            return held;
+        }
+        held = add_own(page, held, said, false);
+        at = found.next;
+    }
+    held
+}
+
+// Adds a line, as many times as the number in front of it says.
+fn add_own(page: &mut Page, held: usize, line: &[u8], of_events: bool) -> usize {
+    let times = scripts::digits(parts::word(line));
+    if times.fault == BAD_FORM {
+        return add_times(page, held, line, 1, of_events);
+    }
+    add_times(page, held, rest(line), times.size, of_events)
+}
+
+fn add_times(page: &mut Page, held: usize, line: &[u8], times: u64, of_events: bool) -> usize {
+    let kind = kind(line);
+    if kind == SILENT {
+        return held;
+    }
+    if EVENT <= kind {
+        if of_events {
+            return repeat(page, held, said(kind, rest(line)), times);
+        }
+        return unless(kind == COUNT, held);
+    }
+    if of_events {
+        return held;
+    }
+    add_text(page, held, kind, rest(line), times)
+}
+
+// As before, or broken.
+fn unless(wrong: bool, held: usize) -> usize {
+    if wrong {
+        return BROKEN;
+    }
+    held
+}
+
+fn add_text(page: &mut Page, held: usize, kind: usize, rest: &[u8], times: u64) -> usize {
+    if kind == AT {
+        return edit(page, held, rest);
+    }
+    if kind == TRANSLATED {
+        return translate(page, held);
+    }
+    repeat(page, held, said(kind, rest), times)
+}
+
+fn repeat(page: &mut Page, before: usize, line: Line, times: u64) -> usize {
+    let mut held = before;
+    for _ in 0..times {
+        held = line.onto(page, held);
+    }
+    unless(line.held == writing::LINE, held)
+}
+
+// The bytes that a line says. A line that is full is broken.
+fn said(kind: usize, rest: &[u8]) -> Line {
+    match kind {
+        LINE => Line::empty().bytes(rest).end(),
+        PART => Line::empty().bytes(rest),
+        EVENT => event(rest),
+        _ => hex(rest),
+    }
 }
 
 // Four numbers: the turn, the kind, the number and the value.
-fn event(events: &mut Buffer, held: usize, rest: &[u8]) -> usize {
-    let at = field(events, held, words::number(words::first(rest)), 4);
-    event_kind(events, at, words::rest(rest))
+fn event(rest: &[u8]) -> Line {
+    let behind_turn = parts::behind(rest);
+    let behind_kind = parts::behind(behind_turn);
+    let mut line = Line::empty().field(number(parts::word(rest)), 4);
+    line = line.field(number(parts::word(behind_turn)), 1);
+    line = line.field(number(parts::word(behind_kind)), 1).field(0, 2);
+    value(line, parts::word(parts::behind(behind_kind)))
 }
 
-fn event_kind(events: &mut Buffer, held: usize, rest: &[u8]) -> usize {
-    let at = field(events, held, words::number(words::first(rest)), 1);
-    event_number(events, at, words::rest(rest))
+fn value(line: Line, word: &[u8]) -> Line {
+    line.field(numbers::digits(scripts::number_of(word).value()) as u64, 4)
 }
 
-fn event_number(events: &mut Buffer, held: usize, rest: &[u8]) -> usize {
-    let mut at = field(events, held, words::number(words::first(rest)), 1);
-    at = field(events, at, 0, 2);
-    field(events, at, words::bits(words::rest(rest)), 4)
-}
-
-// A number in so many bytes, the lowest first. It has to fit.
-fn field(events: &mut Buffer, held: usize, n: u64, width: usize) -> usize {
-    let mut at = held;
-    let mut left = n;
-    for i in 0..width {
-        at = buffer::byte(events, at, (left % 256) as u8);
-        left = left / 256;
+// Bytes in hexadecimal digits, with a space between two.
+fn hex(written: &[u8]) -> Line {
+    if written.len() % 3 != 2 {
+        return broken();
     }
-    buffer::if_right(left == 0, at)
+    let mut line = Line::empty();
+    for i in 1..written.len() {
+        line = hex_at(line, i, written[i - 1], written[i]);
+    }
+    line
+}
+
+// A byte is read at its lower digit, and a space behind it.
+fn hex_at(line: Line, i: usize, before: u8, b: u8) -> Line {
+    if i % 3 == 2 {
+        return line;
+    }
+    if i % 3 == 0 {
+        return if_right(before == b' ', line);
+    }
+    let high = digit(before);
+    let low = digit(b);
+    if_right(
+        (high < 16) & (low < 16),
+        line.byte(high % 16 * 16 + low % 16),
+    )
+}
+
+fn if_right(right: bool, line: Line) -> Line {
+    if right {
+        return line;
+    }
+    broken()
+}
+
+fn broken() -> Line {
+    Line::empty().repeated(b'?', writing::LINE)
+}
+
+// The value of a hexadecimal digit; 16 where a byte is none.
+fn digit(b: u8) -> u8 {
+    if b < b'0' {
+        return 16;
+    }
+    if b <= b'9' {
+        return b - b'0';
+    }
+    if b < b'a' {
+        return 16;
+    }
+    if b <= b'f' {
+        return b - b'a' + 10;
+    }
+    16
 }
 
 // A place, and the bytes that replace those from there on. They have to lie within.
-fn edit(image: &mut Buffer, held: usize, rest: &[u8]) -> usize {
-    let at = words::number(words::first(rest)) as usize;
-    let end = buffer::read_hex(image, at, words::rest(rest));
-    buffer::if_right(end <= held, held)
+fn edit(image: &mut Page, held: usize, rest: &[u8]) -> usize {
+    let line = hex(parts::back(parts::behind(rest), 1));
+    let end = line.onto(image, number(parts::word(rest)) as usize);
+    unless(held < end, held)
 }
 
 // The image takes its text's place.
-fn translate(text: &mut Buffer, held: usize) -> usize {
+fn translate(text: &mut Page, held: usize) -> usize {
     let mut image = io::large_buffer();
-    let answer = bench::translate(buffer::front(text, held), &mut image);
-    let length = answer.length;
+    let answer = bench::translate(writing::held_on(text, held), &mut image);
     if answer.number != 0 {
         return BROKEN;
     }
-    buffer::bytes(text, 0, buffer::front(&image, length))
+    writing::put(text, 0, parts::front(&image, answer.length))
 }

@@ -8,6 +8,14 @@ pub fn front<'a>(bytes: &'a [u8], count: usize) -> &'a [u8] {
     &bytes[..count]
 }
 
+// The same, to be written.
+pub fn lent<'a>(bytes: &'a mut [u8], count: usize) -> &'a mut [u8] {
+    if bytes.len() < count {
+        return &mut bytes[..0];
+    }
+    &mut bytes[..count]
+}
+
 // The bytes behind the first so many; none where there are fewer.
 pub fn back<'a>(bytes: &'a [u8], count: usize) -> &'a [u8] {
     if bytes.len() < count {

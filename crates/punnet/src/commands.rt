@@ -1,10 +1,10 @@
 // What the commands share: statuses, refusals, and files that are written.
-use crate::files;
-use crate::given;
 use bench::Ran;
 use libc::STDOUT_FILENO;
-use telling::Page;
 use telling::refusals;
+use telling::state;
+use writing::Line;
+use writing::Page;
 
 // What the tool ends with.
 pub const ACCEPTED: u8 = 0;
@@ -31,7 +31,7 @@ pub fn usage(given: &[u8], number: u32) -> u8 {
 
 // Writes a page that is done, and answers the status.
 pub fn done(page: &Page, held: usize) -> u8 {
-    if io::write_all(STDOUT_FILENO, telling::held_on(page, held)) {
+    if io::write_all(STDOUT_FILENO, writing::held_on(page, held)) {
         return ACCEPTED;
     }
     files::trouble_with_output();
@@ -39,19 +39,19 @@ pub fn done(page: &Page, held: usize) -> u8 {
 }
 
 pub fn help() -> u8 {
-    let mut page = telling::page();
+    let mut page = writing::page();
     let held = telling::help(&mut page);
     done(&page, held)
 }
 
 pub fn all_words() -> u8 {
-    let mut page = telling::page();
+    let mut page = writing::page();
     let held = telling::all_words(&mut page);
     done(&page, held)
 }
 
 pub fn tell_usage() -> u8 {
-    let mut page = telling::page();
+    let mut page = writing::page();
     let held = telling::help(&mut page);
     files::tell(&page, held);
     TROUBLE
@@ -59,7 +59,7 @@ pub fn tell_usage() -> u8 {
 
 // A refusal of a file.
 pub fn refuse(path: &[u8], number: u8) -> u8 {
-    let mut page = telling::page();
+    let mut page = writing::page();
     let held = refusals::put(&mut page, path, number);
     files::tell(&page, held);
     REFUSED
@@ -70,7 +70,7 @@ pub fn refuse_run(image: &[u8], turns: &[u8], number: u8) -> u8 {
     if number < MANY_TURNS {
         return refuse(image, number);
     }
-    let mut page = telling::page();
+    let mut page = writing::page();
     let held = refusals::put_of_turns(&mut page, turns, number);
     files::tell(&page, held);
     REFUSED
@@ -85,12 +85,11 @@ pub fn start_values(image: &[u8]) -> [i32; 64] {
 }
 
 // The records of a run at the front of a buffer.
-pub fn records_of<'a>(buffer: &'a [u8; 65536], ran: Ran) -> &'a [u8] {
-    let records = ran.records;
-    if events::Event::MOST < records {
-        return given::of_buffer(buffer, 0);
+pub fn records_of<'a>(buffer: &'a [u8], count: usize) -> &'a [u8] {
+    if events::Event::MOST < count {
+        return parts::front(buffer, 0);
     }
-    given::of_buffer(buffer, events::script::SIZE * records)
+    parts::front(buffer, events::script::SIZE * count)
 }
 
 // Writes a file, unless it is the one that was read: then that would be lost.
@@ -102,29 +101,41 @@ pub fn keep(path: &[u8], source: &[u8], bytes: &[u8]) -> bool {
     files::write_whole(path, bytes)
 }
 
-// A name and a colon.
-pub fn put_path(page: &mut Page, path: &[u8]) -> usize {
-    let held = telling::name(page, 0, path);
-    telling::part(page, held, words::COLON)
+// Tells of a file what a line says.
+pub fn tell_of(path: &[u8], line: Line) -> u8 {
+    let mut page = writing::page();
+    let mut held = telling::name(&mut page, 0, path);
+    held = telling::part(Line::empty(), words::COLON).onto(&mut page, held);
+    held = line.onto(&mut page, held);
+    done(&page, held)
 }
 
 // Tells what an image holds: its bytes, cells, labels and variables.
 pub fn tell_image(path: &[u8], image: &[u8]) -> u8 {
-    let mut page = telling::page();
-    let mut held = put_path(&mut page, path);
-    held = telling::number(&mut page, held, image.len() as u64);
-    held = put_counts(&mut page, held, image);
-    done(&page, held)
+    tell_of(path, counts(image))
 }
 
-fn put_counts(page: &mut Page, held: usize, image: &[u8]) -> usize {
-    let mut at = telling::part_number(page, held, words::CELLS, image::cell_count(image) as u64);
-    at = telling::part_number(page, at, words::LABELS, image::label_count(image) as u64);
-    at = telling::part_number(
+fn counts(image: &[u8]) -> Line {
+    let mut line = Line::empty().number(image.len() as u64);
+    line = telling::part_number(line, words::CELLS, image::cell_count(image) as u64);
+    line = telling::part_number(line, words::LABELS, image::label_count(image) as u64);
+    line = telling::part_number(line, words::VARIABLES, image::variable_count(image) as u64);
+    line.end()
+}
+
+// Tells how a run ended, behind what the page holds.
+pub fn tell_end(page: &mut Page, before: usize, image: &[u8], ran: Ran) -> u8 {
+    let end = ran.state;
+    let values = end.variables;
+    let mut held = state::put_end(page, before, ran.reason, ran.turns, ran.records);
+    held = state::put(
         page,
-        at,
-        words::VARIABLES,
-        image::variable_count(image) as u64,
+        held,
+        image,
+        end.motion,
+        end.value,
+        values,
+        start_values(image),
     );
-    telling::line_end(page, at)
+    done(page, held)
 }

@@ -2,7 +2,8 @@
 use crate::commands;
 use crate::commands::ACCEPTED;
 use crate::commands::TROUBLE;
-use crate::given;
+use files::given;
+use writing::Line;
 
 // events SCRIPT EVENTS
 pub fn events_command(path: &[u8], to: &[u8]) -> u8 {
@@ -22,9 +23,6 @@ fn keep(to: &[u8], source: &[u8], bytes: &[u8]) -> u8 {
         return TROUBLE;
     }
     let count = events::script::event_count(bytes) as u64;
-    let mut page = telling::page();
-    let mut held = commands::put_path(&mut page, to);
-    held = telling::part_number(&mut page, held, words::EVENTS, count);
-    held = telling::line_end(&mut page, held);
-    commands::done(&page, held)
+    let line = telling::part_number(Line::empty(), words::EVENTS, count);
+    commands::tell_of(to, line.end())
 }

@@ -2,10 +2,8 @@
 use crate::commands;
 use crate::commands::ACCEPTED;
 use crate::commands::TROUBLE;
-use crate::files;
-use crate::given;
 use bench::Ran;
-use telling::state;
+use files::given;
 use telling::trace;
 
 // check IMAGE
@@ -82,7 +80,7 @@ fn run_with(
     if ran.number != 0 {
         return commands::refuse_run(path, word, ran.number);
     }
-    let records = commands::records_of(&room, ran);
+    let records = commands::records_of(given::of_buffer(&room, 65536), ran.records);
     if !keep_records(to, image, source, records) {
         return TROUBLE;
     }
@@ -102,8 +100,7 @@ fn keep_records(to: &[u8], image: &[u8], events: &[u8], records: &[u8]) -> bool 
 
 // Tells what a run recorded, and how it ended.
 fn tell(image: &[u8], records: &[u8], ran: Ran) -> u8 {
-    let mut page = telling::page();
-    let mut held = trace::put_records(&mut page, image, records);
-    held = state::put(&mut page, held, image, ran, commands::start_values(image));
-    commands::done(&page, held)
+    let mut page = writing::page();
+    let held = trace::put_records(&mut page, image, records);
+    commands::tell_end(&mut page, held, image, ran)
 }

@@ -3,19 +3,19 @@ use crate::commands;
 use crate::commands::ACCEPTED;
 use crate::commands::REFUSED;
 use crate::commands::TROUBLE;
-use crate::files;
-use crate::given;
 use bench::Ran;
+use files::given;
 use telling::refusals;
-use telling::state;
 use telling::trace;
+use tried::Tried;
+use writing::Page;
 
 // A refusal of a text: of a line of it, or of the whole.
 fn refuse(path: &[u8], text: &[u8], line: usize, number: u8) -> u8 {
     if line == 0 {
         return commands::refuse(path, number);
     }
-    let mut page = telling::page();
+    let mut page = writing::page();
     let held = refusals::put_of_line(&mut page, path, text, line, number);
     files::tell(&page, held);
     REFUSED
@@ -78,6 +78,29 @@ fn try_with(path: &[u8], text: &[u8], events: &[u8], word: &[u8], turns: u64) ->
     let mut image = io::large_buffer();
     let mut records = io::large_buffer();
     let tried = tried::try_text(text, &mut image, events, turns, &mut records);
+    outcome(
+        path,
+        text,
+        events,
+        word,
+        turns,
+        tried,
+        given::of_buffer(&image, 65536),
+        given::of_buffer(&records, 65536),
+    )
+}
+
+// A refusal of the text or of the run; else the run, with its image and records, which stand at the front of their buffers.
+fn outcome(
+    path: &[u8],
+    text: &[u8],
+    events: &[u8],
+    word: &[u8],
+    turns: u64,
+    tried: Tried,
+    image: &[u8],
+    records: &[u8],
+) -> u8 {
     let translated = tried.translated;
     if translated.number != 0 {
         return refuse(path, text, translated.line, translated.number);
@@ -86,12 +109,11 @@ fn try_with(path: &[u8], text: &[u8], events: &[u8], word: &[u8], turns: u64) ->
     if ran.number != 0 {
         return commands::refuse_run(path, word, ran.number);
     }
-    let made = given::of_buffer(&image, translated.length);
     tell(
         text,
-        made,
+        parts::front(image, translated.length),
         events,
-        commands::records_of(&records, ran),
+        commands::records_of(records, ran.records),
         turns,
         ran,
     )
@@ -99,14 +121,13 @@ fn try_with(path: &[u8], text: &[u8], events: &[u8], word: &[u8], turns: u64) ->
 
 // Tells a run turn by turn, and how it ended.
 fn tell(text: &[u8], image: &[u8], events: &[u8], records: &[u8], turns: u64, ran: Ran) -> u8 {
-    let mut page = telling::page();
-    let mut held = put_turns(&mut page, text, image, events, records, turns);
-    held = state::put(&mut page, held, image, ran, commands::start_values(image));
-    commands::done(&page, held)
+    let mut page = writing::page();
+    let held = put_turns(&mut page, text, image, events, records, turns);
+    commands::tell_end(&mut page, held, image, ran)
 }
 
 fn put_turns(
-    page: &mut telling::Page,
+    page: &mut Page,
     text: &[u8],
     image: &[u8],
     events: &[u8],
@@ -116,12 +137,9 @@ fn put_turns(
     let mut room = io::large_buffer();
     let mut visits = io::large_buffer();
     let taken = tried::visit_text(text, &mut room, events, turns, &mut visits);
-    let mut lines = trace::no_lines();
-    trace::put_lines(&mut lines, text);
     trace::put(
         page,
         text,
-        trace::all_lines(&lines),
         image,
         events,
         records,

@@ -77,7 +77,7 @@ impl Number {
     }
 
     // The number as the value of an event; 0 where it does not fit.
-    fn value(self) -> i32 {
+    pub fn value(self) -> i32 {
         if self.negative {
             if MOST_BELOW < self.size {
                 return 0;
@@ -148,7 +148,7 @@ fn with_digit(size: u64, digit: u8) -> u64 {
 }
 
 // The number that a word is: digits, perhaps behind a minus.
-fn number_of(word: &[u8]) -> Number {
+pub fn number_of(word: &[u8]) -> Number {
     if word.len() == 0 {
         return Number::bad(BAD_FORM);
     }

@@ -1,204 +1,174 @@
-// The largest program, and as many events as it takes: built piece by piece in a buffer.
-//
-// A function that adds something takes how many bytes the buffer holds, `held`, and answers how many it holds then. What is past the
-// buffer's end is left out.
-ghost use Rattle.io.specs.Counts.{Counts};
+// The programs that are measured, and as many events as a run takes, byte by byte.
+use events::Event;
 
-pub const SIZE: usize = 65536;
+// The largest program is made of blocks of fourteen lines. In a block # stands for its character, @ and % for those of blocks further on. Its
+// ninth line is one of four, by the block's number. A variable counts up, an output is set, an input passes over the ninth line, a value is
+// printed, and a jump goes back or on.
+const BLOCK_SIZE: usize = 512;
 
-pub type Buffer = [u8; SIZE];
-
-// How many bytes an event has.
-pub const EVENT: usize = 12;
-
-// The program is made of blocks: eight statements, five labels and a variable each.
 const BLOCKS: usize = 32;
 
-// How many bytes a line takes without its ending: one with a statement, and one that declares a name. Together they fill the longest text.
-const CELL_LINE: usize = 36;
+const BEFORE: usize = 292;
 
-const NAME_LINE: usize = 35;
+const NINTH: usize = 37;
 
-fn byte(buffer: &mut Buffer, held: usize, b: u8) -> usize {
-    if held < SIZE {
-        buffer[held] = b;
-        return held + 1;
-    }
-    held
-}
+const BLOCK: [u8; BLOCK_SIZE] = *b"VA U#=7 '..........................
+LB G# '............................
+IC U# '.............................
+LB J# '............................
+R1=U#*3 '...........................
+O1=U#&1 '...........................
+LB K# '............................
+BR Q#,IN>=8 '.......................
+ '..................................
+LB Q# '............................
+PR U# '.............................
+LB W# '............................
+BR G#,R1<30 '.......................
+BR G@ '.............................
+";
 
-fn bytes(buffer: &mut Buffer, held: usize, values: &[u8]) -> usize {
-    let mut at = held;
-    for i in 0..values.len() {
-        at = byte(buffer, at, values[i]);
-    }
-    at
-}
+const NINTHS: [u8; NINTH * 4] = *b"U%=R1&255 '.........................
+MR U# '.............................
+R2=U#/3 '...........................
+R3=U#^5 '...........................
+";
 
-fn full_stops(buffer: &mut Buffer, held: usize, count: usize) -> usize {
-    let mut at = held;
-    for i in 0..count {
-        at = byte(buffer, at, b'.');
-    }
-    at
-}
+pub const TEXT_SIZE: usize = BLOCK_SIZE * BLOCKS;
+
+pub type Text = [u8; TEXT_SIZE];
+
+// A program that calls eight deep and returns, again and again.
+pub const CALLS_SIZE: usize = 132;
+
+pub const CALLS: [u8; CALLS_SIZE] = *b"LB AA
+CL AB
+BR AA
+LB AB
+CL AC
+RT
+LB AC
+CL AD
+RT
+LB AD
+CL AE
+RT
+LB AE
+CL AF
+RT
+LB AF
+CL AG
+RT
+LB AG
+CL AH
+RT
+LB AH
+CL AI
+RT
+LB AI
+RT
+";
+
+// One event for each turn.
+pub const TURNS: usize = 4096;
+
+pub const EVENTS_SIZE: usize = events::script::SIZE * TURNS;
+
+pub type Events = [u8; EVENTS_SIZE];
 
 // The second character of a block's names.
 fn character(block: usize) -> u8 {
-    let characters = b"ABCDEFGHIJKLMNOPQRSTUVWXYZ012345";
-    characters[block % BLOCKS]
+    let n = (block % BLOCKS) as u8;
+    if n < 26 { b'A' + n } else { b'0' + (n - 26) }
 }
 
-// A line of this width: a statement with one name in it, by letter and block, and a comment of full stops.
-fn line(
-    buffer: &mut Buffer,
-    held: usize,
-    before: &[u8],
-    letter: u8,
-    block: usize,
-    after: &[u8],
-    width: usize,
-) -> usize {
-    let end = full_stops(buffer, held, width);
-    let mut at = bytes(buffer, held, before);
-    at = byte(buffer, at, letter);
-    at = byte(buffer, at, character(block));
-    at = bytes(buffer, at, after);
-    bytes(buffer, at, b" '");
-    byte(buffer, end, b'\n')
-}
-
-fn label(buffer: &mut Buffer, held: usize, letter: u8, number: usize) -> usize {
-    line(buffer, held, b"LB ", letter, number, b"", NAME_LINE)
-}
-
-// The statement in the middle of a block.
-fn middle(buffer: &mut Buffer, held: usize, block: usize) -> usize {
-    let kind = block % 4;
-    if kind == 0 {
-        let other = (block % BLOCKS) + 11;
-        return line(buffer, held, b"", b'U', other, b"=R1&255", CELL_LINE);
+// A byte of a block, with the character that it stands for.
+fn filled(b: u8, block: usize) -> u8 {
+    if b == b'#' {
+        return character(block);
     }
-    if kind == 1 {
-        return line(buffer, held, b"MR ", b'U', block, b"", CELL_LINE);
+    if b == b'@' {
+        return character(block % BLOCKS + 13);
     }
-    if kind == 2 {
-        return line(buffer, held, b"R2=", b'U', block, b"/3", CELL_LINE);
+    if b == b'%' {
+        return character(block % BLOCKS + 11);
     }
-    line(buffer, held, b"R3=", b'U', block, b"^5", CELL_LINE)
+    b
 }
 
-// A variable that counts up.
-fn counting(buffer: &mut Buffer, held: usize, number: usize) -> usize {
-    let mut at = line(buffer, held, b"VA ", b'U', number, b"=7", NAME_LINE);
-    at = label(buffer, at, b'G', number);
-    at = line(buffer, at, b"IC ", b'U', number, b"", CELL_LINE);
-    label(buffer, at, b'J', number)
-}
-
-// An output, and a statement that is passed over by an input.
-fn storing(buffer: &mut Buffer, held: usize, number: usize) -> usize {
-    let mut at = line(buffer, held, b"R1=", b'U', number, b"*3", CELL_LINE);
-    at = line(buffer, at, b"O1=", b'U', number, b"&1", CELL_LINE);
-    at = label(buffer, at, b'K', number);
-    line(buffer, at, b"BR ", b'Q', number, b",IN>=8", CELL_LINE)
-}
-
-// A value printed, and the way on.
-fn ending(buffer: &mut Buffer, held: usize, number: usize) -> usize {
-    let mut at = label(buffer, held, b'Q', number);
-    at = line(buffer, at, b"PR ", b'U', number, b"", CELL_LINE);
-    at = label(buffer, at, b'W', number);
-    at = line(buffer, at, b"BR ", b'G', number, b",R1<30", CELL_LINE);
-    onward(buffer, at, (number % BLOCKS) + 13)
-}
-
-fn onward(buffer: &mut Buffer, held: usize, next: usize) -> usize {
-    line(buffer, held, b"BR ", b'G', next, b"", CELL_LINE)
-}
-
-fn block(buffer: &mut Buffer, held: usize, number: usize) -> usize {
-    let mut at = counting(buffer, held, number);
-    at = storing(buffer, at, number);
-    at = middle(buffer, at, number);
-    ending(buffer, at, number)
-}
-
-pub fn text(buffer: &mut Buffer) -> usize {
-    let mut at: usize = 0;
-    for number in 0..BLOCKS {
-        at = block(buffer, at, number);
+fn letter(block: usize, i: usize) -> u8 {
+    if BEFORE + NINTH <= i {
+        return filled(BLOCK[i % BLOCK_SIZE], block);
     }
-    at
+    if BEFORE <= i {
+        return filled(NINTHS[block % 4 * NINTH + (i - BEFORE)], block);
+    }
+    filled(BLOCK[i % BLOCK_SIZE], block)
 }
 
-// The kinds of event: an input changes, a move arrives, the axis is at a place.
-const INPUT: u8 = 1;
-
-const ARRIVAL: u8 = 2;
-
-const PLACE: u8 = 3;
+// The largest program.
+pub fn text() -> Text {
+    let mut text = [0u8; TEXT_SIZE];
+    for at in 0..TEXT_SIZE {
+        text[at] = letter(at / BLOCK_SIZE, at % BLOCK_SIZE);
+    }
+    text
+}
 
 fn kind(turn: usize) -> u8 {
     if turn % 16 == 7 {
-        return ARRIVAL;
+        return Event::ARRIVAL;
     }
     if turn % 16 == 15 {
-        return PLACE;
+        return Event::PLACE;
     }
-    INPUT
+    Event::INPUT
 }
 
-fn value(kind: u8, turn: usize) -> usize {
-    if kind == INPUT {
-        return turn / 16 % 2;
-    }
-    if kind == PLACE {
-        return turn % SIZE * 3;
+fn number(turn: usize) -> u8 {
+    if kind(turn) == Event::INPUT {
+        return 1 + (turn % 4) as u8;
     }
     0
 }
 
-// A number below 65,536 in four bytes.
-fn four(buffer: &mut Buffer, held: usize, n: usize) -> usize {
-    let mut at = byte(buffer, held, (n % 256) as u8);
-    at = byte(buffer, at, (n / 256 % 256) as u8);
-    bytes(buffer, at, b"\0\0")
-}
-
-// The event of a turn.
-fn event(buffer: &mut Buffer, held: usize, turn: usize) -> usize {
+fn value(turn: usize) -> usize {
     let kind = kind(turn);
-    let mut at = four(buffer, held, turn);
-    at = byte(buffer, at, kind);
-    if kind == INPUT {
-        at = byte(buffer, at, 1 + (turn % 4) as u8);
-    } else {
-        at = byte(buffer, at, 0);
+    if kind == Event::INPUT {
+        return turn / 16 % 2;
     }
-    at = bytes(buffer, at, b"\0\0");
-    four(buffer, at, value(kind, turn))
-}
-
-// One event for each turn.
-pub fn events(buffer: &mut Buffer, turns: usize) -> usize {
-    let mut at: usize = 0;
-    for turn in 0..turns {
-        at = event(buffer, at, turn);
+    if kind == Event::PLACE {
+        return turn % TURNS * 3;
     }
-    at
+    0
 }
 
-// The first bytes that a buffer holds.
-pub fn front<'a>(buffer: &'a Buffer, held: usize) -> &'a [u8] {
-    let whole: &[u8] = buffer;
-    let count = within(held, whole);
-    &whole[..count]
+// The lower byte of a number below 65,536, and the upper.
+fn low(n: usize) -> u8 {
+    (n % 256) as u8
 }
 
-// The number n, or the bytes' length where that is less.
-fn within(n: usize, values: &[u8]) -> usize
-    ensures { λ r. ⌜ Counts r (now (values .entry)) ⌝ }
-{
-    if n < values.len() { n } else { values.len() }
+fn high(n: usize) -> u8 {
+    (n / 256 % 256) as u8
+}
+
+// A byte of the event of a turn.
+fn byte(turn: usize, i: usize) -> u8 {
+    match i {
+        0 => low(turn),
+        1 => high(turn),
+        events::script::KIND => kind(turn),
+        events::script::NUMBER => number(turn),
+        events::script::VALUE => low(value(turn)),
+        9 => high(value(turn)),
+        _ => 0,
+    }
+}
+
+pub fn events() -> Events {
+    let mut events = [0u8; EVENTS_SIZE];
+    for at in 0..EVENTS_SIZE {
+        events[at] = byte(at / events::script::SIZE, at % events::script::SIZE);
+    }
+    events
 }

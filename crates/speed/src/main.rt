@@ -1,5 +1,5 @@
-// Repeats one of the bench's three calls on the largest program, and writes a checksum of the answers and of the buffer that the call fills
-// or reads. The arguments are the call and how many times.
+// Repeats one of the bench's three calls, and writes a checksum of the answers and of the buffer that the call fills or reads. The arguments are
+// what is repeated, and how many times: `translate`, `check` and `run` take the largest program, and `calls` runs one that calls and returns.
 mod build;
 mod sums;
 
@@ -8,68 +8,44 @@ use libc::STDOUT_FILENO;
 
 const LONGEST_IMAGE: usize = 5008;
 
-// How many turns a run takes, and how many bytes its records may fill.
-const TURNS: usize = 4096;
-
-const RECORD_BYTES: usize = build::EVENT * TURNS;
-
 // The longest argument that is read.
 const WORD: usize = 16;
 
 // How many words the program is started with, its own name among them.
 const WORDS: usize = 3;
 
-const MOST_DIGITS: usize = 9;
-
 const FIRST_SUM: u64 = 1;
 
-// The calls, by their numbers among the tool's commands.
-const TRANSLATE: u32 = 2;
+// What is repeated.
+const NOTHING: u8 = 0;
 
-const CHECK: u32 = 3;
+const TRANSLATE: u8 = 1;
 
-const RUN: u32 = 4;
+const CHECK: u8 = 2;
 
-fn is_call(call: u32) -> bool {
-    (call == TRANSLATE) | (call == CHECK) | (call == RUN)
-}
+const RUN: u8 = 3;
 
-fn is_digit(b: u8) -> bool {
-    (b'0' <= b) & (b <= b'9')
-}
+const CALLS: u8 = 4;
 
-// One to nine digits.
-fn is_count(word: &[u8]) -> bool {
-    for i in 0..word.len() {
-        if !is_digit(word[i]) {
-            return false;
-        }
+fn task(word: &[u8]) -> u8 {
+    if parts::same(word, b"translate") {
+        return TRANSLATE;
     }
-    (0 < word.len()) & (word.len() <= MOST_DIGITS)
-}
-
-// The number that digits write; one that there is no room for is passed over.
-fn number(word: &[u8]) -> u64 {
-    let mut n: u64 = 0;
-    for i in 0..word.len() {
-        n = with_digit(n, word[i]);
+    if parts::same(word, b"check") {
+        return CHECK;
     }
-    n
-}
-
-fn with_digit(n: u64, digit: u8) -> u64 {
-    if digit < b'0' {
-        return n;
+    if parts::same(word, b"run") {
+        return RUN;
     }
-    if 1000000000 <= n {
-        return n;
+    if parts::same(word, b"calls") {
+        return CALLS;
     }
-    n * 10 + ((digit - b'0') as u64)
+    NOTHING
 }
 
 fn translate(times: u64, text: &[u8], image: &mut [u8]) -> u64 {
     let mut sum = FIRST_SUM;
-    for i in 0..times {
+    for _ in 0..times {
         sum = sums::translated(sum, bench::translate(text, image));
     }
     sums::bytes(sum, image)
@@ -77,7 +53,7 @@ fn translate(times: u64, text: &[u8], image: &mut [u8]) -> u64 {
 
 fn check(times: u64, image: &[u8]) -> u64 {
     let mut sum = FIRST_SUM;
-    for i in 0..times {
+    for _ in 0..times {
         sum = sums::checked(sum, bench::check(image));
     }
     sums::bytes(sum, image)
@@ -85,44 +61,65 @@ fn check(times: u64, image: &[u8]) -> u64 {
 
 fn run(times: u64, image: &[u8], events: &[u8], records: &mut [u8]) -> u64 {
     let mut sum = FIRST_SUM;
-    for i in 0..times {
-        sum = sums::ran(sum, bench::run(image, events, TURNS as u64, records));
+    for _ in 0..times {
+        sum = sums::ran(sum, bench::run(image, events, build::TURNS as u64, records));
     }
     sums::bytes(sum, records)
 }
 
-fn write_sum(sum: u64) {
-    io::print_decimal(STDOUT_FILENO, sum);
-    io::write_all(STDOUT_FILENO, b"\n");
+fn runs(times: u64, image: &[u8], events: &[u8]) -> u64 {
+    let mut records = [0u8; build::EVENTS_SIZE];
+    run(times, image, events, &mut records)
 }
 
-// Makes the call so many times. The text's image is made once before, where the call takes an image.
-fn repeat(call: u32, times: u64, text: &[u8], image: &mut [u8]) {
-    if call == TRANSLATE {
-        write_sum(translate(times, text, image));
-        return;
+// The sum of so many calls on the image of a text, which is made once before.
+fn on_image(task: u8, times: u64, text: &[u8], events: &[u8]) -> u64 {
+    let mut room = [0u8; LONGEST_IMAGE];
+    let translated = bench::translate(text, &mut room);
+    let image = parts::front(&room, translated.length);
+    if task == CHECK {
+        return check(times, image);
     }
-    bench::translate(text, image);
-    if call == CHECK {
-        write_sum(check(times, image));
-        return;
-    }
-    repeat_run(times, image);
+    runs(times, image, events)
 }
 
-fn repeat_run(times: u64, image: &[u8]) {
-    let mut events = io::large_buffer();
-    let mut records = [0u8; RECORD_BYTES];
-    let held = build::events(&mut events, TURNS);
-    write_sum(run(times, image, build::front(&events, held), &mut records));
-}
-
-// A call on the largest program.
-fn measure(call: u32, times: u64) {
-    let mut text = io::large_buffer();
+fn on_text(times: u64, text: &[u8]) -> u64 {
     let mut image = [0u8; LONGEST_IMAGE];
-    let held = build::text(&mut text);
-    repeat(call, times, build::front(&text, held), &mut image);
+    translate(times, text, &mut image)
+}
+
+fn on_calls(times: u64) -> u64 {
+    let text = build::CALLS;
+    on_image(CALLS, times, &text, b"")
+}
+
+fn on_largest(task: u8, times: u64) -> u64 {
+    let text = build::text();
+    if task == TRANSLATE {
+        return on_text(times, &text);
+    }
+    let events = build::events();
+    on_image(task, times, &text, &events)
+}
+
+fn repeat(task: u8, times: u64) -> u64 {
+    if task == CALLS {
+        return on_calls(times);
+    }
+    on_largest(task, times)
+}
+
+fn tell_usage() {
+    io::write_all(STDERR_FILENO, b"usage: speed translate|check|run|calls N\n");
+}
+
+fn start(task: u8, times: scripts::Number) {
+    if (os::arg_count() != WORDS) | (task == NOTHING) | (times.fault != scripts::NO_FAULT) {
+        tell_usage();
+        return;
+    }
+    io::print_decimal(STDOUT_FILENO, repeat(task, times.size));
+    io::write_all(STDOUT_FILENO, b"\n");
 }
 
 fn main() {
@@ -130,10 +127,8 @@ fn main() {
     let mut times = [0u8; WORD];
     let n = os::arg(1, &mut name);
     let m = os::arg(2, &mut times);
-    let call = words::number_for(words::COMMAND, &name[..n]);
-    if (os::arg_count() == WORDS) & is_call(call) & is_count(&times[..m]) {
-        measure(call, number(&times[..m]));
-        return;
-    }
-    io::write_all(STDERR_FILENO, b"usage: speed translate|check|run N\n");
+    start(
+        task(parts::front(&name, n)),
+        scripts::digits(parts::front(&times, m)),
+    );
 }

@@ -8,35 +8,40 @@ const MODULUS: u64 = 4294967291;
 
 const FACTOR: u64 = 31;
 
+// How many numbers 32 bits can write, and how many of them are not negative.
+const WRAP: u64 = 4294967296;
+
+const HALF: u64 = 2147483648;
+
 fn mixed(sum: u64, n: u64) -> u64 {
     ((sum % MODULUS) * FACTOR + n % MODULUS) % MODULUS
 }
 
 // A number with a sign, moved up so that the lowest is 0.
-fn signless(z: i32) -> u64 {
-    if z < 0 {
-        2147483647 - ((!z) as u64)
-    } else {
-        2147483648 + (z as u64)
-    }
+fn signed(sum: u64, z: i32) -> u64 {
+    mixed(sum, ((numbers::digits(z) as u64) + HALF) % WRAP)
 }
 
-fn wide(b: u8) -> u64 {
-    b as u64
+fn place(sum: u64, n: u16) -> u64 {
+    mixed(sum, n as u64)
+}
+
+fn byte(sum: u64, b: u8) -> u64 {
+    mixed(sum, b as u64)
 }
 
 pub fn bytes(start: u64, values: &[u8]) -> u64 {
     let mut sum = start;
     for i in 0..values.len() {
-        sum = mixed(sum, wide(values[i]));
+        sum = byte(sum, values[i]);
     }
     sum
 }
 
-pub fn translated(sum: u64, answer: Translated) -> u64 {
-    let first = mixed(sum, answer.number as u64);
-    let second = mixed(first, answer.line as u64);
-    mixed(second, answer.length as u64)
+pub fn translated(start: u64, answer: Translated) -> u64 {
+    let mut sum = mixed(start, answer.number as u64);
+    sum = mixed(sum, answer.line as u64);
+    mixed(sum, answer.length as u64)
 }
 
 pub fn checked(sum: u64, answer: Checked) -> u64 {
@@ -62,14 +67,14 @@ fn state(start: u64, end: State) -> u64 {
     sum = mixed(sum, end.handler as u64);
     sum = mixed(sum, end.hold as u64);
     sum = mixed(sum, end.motion as u64);
-    sum = mixed(sum, signless(end.value));
+    sum = signed(sum, end.value);
     variables(sum, values)
 }
 
 fn places(start: u64, values: [u16; 8]) -> u64 {
     let mut sum = start;
     for i in 0..8 {
-        sum = mixed(sum, values[i] as u64);
+        sum = place(sum, values[i]);
     }
     sum
 }
@@ -77,7 +82,7 @@ fn places(start: u64, values: [u16; 8]) -> u64 {
 fn variables(start: u64, values: [i32; 64]) -> u64 {
     let mut sum = start;
     for i in 0..64 {
-        sum = mixed(sum, signless(values[i]));
+        sum = signed(sum, values[i]);
     }
     sum
 }

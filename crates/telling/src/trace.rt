@@ -1,8 +1,9 @@
 // A run told turn by turn: the events, the statement with its line, and what it recorded.
-use crate::Page;
 use crate::state;
 use events::Event;
 use events::Record;
+use writing::Line;
+use writing::Page;
 
 // How far a run is told: the next turn, event and record, and what the page holds.
 struct Mark {
@@ -28,17 +29,17 @@ const BEFORE_DASH: usize = TURN_WIDTH - 1;
 const NO_TURN: usize = 4294967296;
 
 // For each place of a text the number of its line, in two bytes.
-pub type Lines = [u8; 512];
+type Lines = [u8; 512];
 
-pub fn no_lines() -> Lines {
+fn no_lines() -> Lines {
     [0; 512]
 }
 
-pub fn all_lines<'a>(lines: &'a Lines) -> &'a [u8] {
+fn all_lines<'a>(lines: &'a Lines) -> &'a [u8] {
     parts::front(lines, 512)
 }
 
-pub fn put_lines(lines: &mut Lines, text: &[u8]) {
+fn put_lines(lines: &mut Lines, text: &[u8]) {
     for place in 0..256 {
         let found = translation::line_of(text, place as u16);
         if found.line == 0 {
@@ -98,17 +99,15 @@ fn stay_end(visits: &[u8], turns: usize, turn: usize, record: usize, event: usiz
 }
 
 // The column of turns: one turn, or the first and the last of several.
-fn put_turns(page: &mut Page, held: usize, turn: u64, last: u64) -> usize {
+fn turns_of(mut line: Line, turn: u64, last: u64) -> Line {
     if last <= turn {
-        return crate::number_to(page, held, turn, TURN_WIDTH);
+        return line.number_to(turn, TURN_WIDTH);
     }
-    let used = crate::width(last);
-    let mut at = held;
+    let used = writing::width(last);
     if used < BEFORE_DASH {
-        at = crate::number_to(page, at, turn, BEFORE_DASH - used);
+        line = line.number_to(turn, BEFORE_DASH - used);
     }
-    at = crate::byte(page, at, b'-');
-    crate::number(page, at, last)
+    line.byte(b'-').number(last)
 }
 
 // The turn before one.
@@ -120,26 +119,22 @@ fn one_less(end: usize) -> u64 {
 }
 
 // An event in words: its kind, its number where it has one, and its value unless a move arrives.
-fn put_event(page: &mut Page, held: usize, event: Event) -> usize {
-    let mut at = crate::meaning(page, held, words::KIND_OF_EVENT, event.kind as u32);
+fn event_in_words(mut line: Line, event: Event) -> Line {
+    line = crate::meaning(line, words::KIND_OF_EVENT, event.kind as u32);
     if event.kind == Event::ARRIVAL {
-        return at;
+        return line;
     }
     if event.number != 0 {
-        at = crate::byte(page, at, b' ');
-        at = crate::number(page, at, event.number as u64);
+        line = line.byte(b' ').number(event.number as u64);
     }
-    at = crate::part(page, at, words::EQUALS);
-    crate::signed(page, at, event.value)
+    crate::part(line, words::EQUALS).signed(event.value)
 }
 
 // The line of an event.
-fn put_event_line(page: &mut Page, held: usize, event: Event) -> usize {
-    let mut at = crate::number_to(page, held, event.turn as u64, TURN_WIDTH);
-    at = crate::spaces(page, at, GAP + LINE_WIDTH + GAP);
-    at = crate::part(page, at, words::EVENT_ROW);
-    at = put_event(page, at, event);
-    crate::line_end(page, at)
+fn event_line(event: Event) -> Line {
+    let mut line = Line::empty().number_to(event.turn as u64, TURN_WIDTH);
+    line = line.spaces(GAP + LINE_WIDTH + GAP);
+    event_in_words(crate::part(line, words::EVENT_ROW), event).end()
 }
 
 // The events of the turn that is next.
@@ -150,7 +145,7 @@ fn put_events(page: &mut Page, mark: Mark, events: &[u8]) -> Mark {
         if turn_of(events, k) != mark.turn {
             break;
         }
-        held = put_event_line(page, held, entry(events, k));
+        held = event_line(entry(events, k)).onto(page, held);
         k += 1;
     }
     Mark {
@@ -162,46 +157,38 @@ fn put_events(page: &mut Page, mark: Mark, events: &[u8]) -> Mark {
 }
 
 // The output of a record, or the variable that was printed.
-fn put_source(page: &mut Page, held: usize, image: &[u8], kind: u8, number: u8) -> usize {
+fn source(line: Line, image: &[u8], kind: u8, number: u8) -> Line {
     if number == 0 {
-        return held;
+        return line;
     }
-    let mut at = held;
     if kind == Record::PRINTED {
-        at = state::put_name(page, at, image, number);
-    } else {
-        at = crate::number(page, at, number as u64);
+        return crate::part(state::name(line, image, number), words::EQUALS);
     }
-    crate::part(page, at, words::EQUALS)
+    crate::part(line.number(number as u64), words::EQUALS)
 }
 
 // A record in words: an error, or its kind, what it is of, and its value.
-fn put_record(page: &mut Page, held: usize, image: &[u8], record: Event) -> usize {
+fn record_in_words(mut line: Line, image: &[u8], record: Event) -> Line {
     if record.kind == Record::FAILED {
-        return crate::words(page, held, words::ERROR, numbers::digits(record.value));
+        return crate::words(line, words::ERROR, numbers::digits(record.value));
     }
-    let mut at = crate::meaning(page, held, words::KIND_OF_RECORD, record.kind as u32);
-    at = put_source(page, at, image, record.kind, record.number);
-    crate::signed(page, at, record.value)
+    line = crate::meaning(line, words::KIND_OF_RECORD, record.kind as u32);
+    source(line, image, record.kind, record.number).signed(record.value)
 }
 
 // The statement of a turn or of a stay at one place, with its turns and its line.
-fn put_row(page: &mut Page, mark: Mark, end: usize, line: usize, statement: &[u8]) -> usize {
-    let mut at = put_turns(page, mark.held, mark.turn as u64, one_less(end));
-    at = crate::spaces(page, at, GAP);
-    at = crate::number_to(page, at, line as u64, LINE_WIDTH);
-    at = crate::spaces(page, at, GAP);
-    crate::bytes(page, at, statement)
+fn row(turn: usize, end: usize, number: usize, statement: &[u8]) -> Line {
+    let mut line = turns_of(Line::empty(), turn as u64, one_less(end));
+    line = line.spaces(GAP).number_to(number as u64, LINE_WIDTH);
+    line.spaces(GAP).bytes(statement)
 }
 
 // What a turn recorded, in the column behind a statement of so many bytes.
-fn put_what(page: &mut Page, held: usize, used: usize, image: &[u8], record: Event) -> usize {
-    let mut at = held;
+fn recorded(mut line: Line, used: usize, image: &[u8], record: Event) -> Line {
     if used < STATEMENT_WIDTH {
-        at = crate::spaces(page, at, STATEMENT_WIDTH - used);
+        line = line.spaces(STATEMENT_WIDTH - used);
     }
-    at = crate::spaces(page, at, GAP);
-    put_record(page, at, image, record)
+    record_in_words(line.spaces(GAP), image, record)
 }
 
 // The line of a turn or of a stay at one place.
@@ -209,23 +196,22 @@ fn put_turn(
     page: &mut Page,
     mark: Mark,
     end: usize,
-    text: &[u8],
-    line: usize,
+    statement: &[u8],
+    number: usize,
     image: &[u8],
     records: &[u8],
 ) -> Mark {
-    let statement = parts::uncommented(parts::line(text, line));
-    let mut held = put_row(page, mark, end, line, statement);
+    let mut line = row(mark.turn, end, number, statement);
     let mut record = mark.record;
     if turn_of(records, record) == mark.turn {
-        held = put_what(page, held, statement.len(), image, entry(records, record));
+        line = recorded(line, statement.len(), image, entry(records, record));
         record = one_more(record);
     }
     Mark {
         turn: end,
         event: mark.event,
         record,
-        held: crate::line_end(page, held),
+        held: line.end().onto(page, mark.held),
     }
 }
 
@@ -245,12 +231,36 @@ fn put_step(
     let record = turn_of(records, mark.record);
     let event = turn_of(events, mark.event);
     let end = stay_end(visits, turns, mark.turn, record, event);
-    let line = listed(lines, listed(visits, mark.turn));
-    put_turn(page, mark, end, text, line, image, records)
+    let number = listed(lines, listed(visits, mark.turn));
+    let statement = parts::uncommented(parts::line(text, number));
+    put_turn(page, mark, end, statement, number, image, records)
 }
 
-// The whole run of a text: for its places the lines, for its turns the places, and its events and records.
+// The whole run of a text: for its turns the places, and its events and records.
 pub fn put(
+    page: &mut Page,
+    text: &[u8],
+    image: &[u8],
+    events: &[u8],
+    records: &[u8],
+    visits: &[u8],
+    turns: usize,
+) -> usize {
+    let mut lines = no_lines();
+    put_lines(&mut lines, text);
+    put_all(
+        page,
+        text,
+        all_lines(&lines),
+        image,
+        events,
+        records,
+        visits,
+        turns,
+    )
+}
+
+fn put_all(
     page: &mut Page,
     text: &[u8],
     lines: &[u8],
@@ -286,22 +296,21 @@ pub fn put(
 }
 
 fn put_header(page: &mut Page) -> usize {
-    let held = crate::part(page, 0, words::HEADER);
-    crate::line_end(page, held)
+    crate::part(Line::empty(), words::HEADER)
+        .end()
+        .onto(page, 0)
 }
 
 // Each record on a line of its own, with its turn.
 pub fn put_records(page: &mut Page, image: &[u8], records: &[u8]) -> usize {
     let mut held: usize = 0;
     for k in 0..events::script::event_count(records) {
-        held = put_record_line(page, held, image, entry(records, k));
+        held = record_line(image, entry(records, k)).onto(page, held);
     }
     held
 }
 
-fn put_record_line(page: &mut Page, held: usize, image: &[u8], record: Event) -> usize {
-    let mut at = crate::number_to(page, held, record.turn as u64, TURN_WIDTH);
-    at = crate::spaces(page, at, GAP);
-    at = put_record(page, at, image, record);
-    crate::line_end(page, at)
+fn record_line(image: &[u8], record: Event) -> Line {
+    let line = Line::empty().number_to(record.turn as u64, TURN_WIDTH);
+    record_in_words(line.spaces(GAP), image, record).end()
 }

@@ -1,57 +1,20 @@
--- `run` is safe and ends: each turn leaves fewer.
+-- `run` is safe and ends: the buffer keeps its length.
 -- Assumes nothing.
+use mathlib.Core.Path.{_≡_}
 use Prim.Native.Nat.{_-_}
 use lib.ListN.{length}
-use mathlib.Core.Path.{_≡_}
 use borrow.Author.Needs.{needs}
 use Rattle.speed.proofs.run.Statement.{statement}
 use Rattle.speed.proofs.run.Tie as tie
 
 abbrev Inv-loop : tie.InvT-loop
-Inv-loop times image events records₀ sum₀ i₀ records sum i = length records ≡ length records₀
+Inv-loop times image events records₀ sum₀ counter₀ records sum counter = length records ≡ length records₀
 
 abbrev μ-loop : tie.MeasureT-loop
-μ-loop times image events records₀ sum₀ i₀ records sum i = times - i
-
-loop-holds : tie.Need-loop-holds Inv-loop μ-loop
-loop-holds c = search needs
-
-run-requires : tie.Need-run-requires Inv-loop μ-loop
-run-requires c κs = search needs
-
-ran-requires : tie.Need-ran-requires Inv-loop μ-loop
-ran-requires c κs = search needs
-
-add-i : tie.Need-add-i Inv-loop μ-loop
-add-i c = search needs
-
-loop-less : tie.Need-loop-less Inv-loop μ-loop
-loop-less c = search needs
-
-loop-again : tie.Need-loop-again Inv-loop μ-loop
-loop-again c = search needs
-
-bytes-requires : tie.Need-bytes-requires Inv-loop μ-loop
-bytes-requires c κs = search needs
-
-same-length : tie.Need-same-length Inv-loop μ-loop
-same-length c = search needs
-
-returns : tie.Need-returns Inv-loop μ-loop
-returns c = search needs
+μ-loop times image events records₀ sum₀ counter₀ records sum counter = times - counter
 
 pub run-spec : {M : Type 1} → statement M
 run-spec =
     tie.close
-    (tie.spec
-    Inv-loop
-    μ-loop
-    loop-holds
-    run-requires
-    ran-requires
-    add-i
-    loop-less
-    loop-again
-    bytes-requires
-    same-length
-    returns)
+    (tie.spec Inv-loop μ-loop (search needs) (search needs) (search needs) (search needs) (search needs) (search needs) (search needs)
+    (search needs) (search needs))

@@ -1,4 +1,4 @@
--- `first_run` is safe and ends: each turn leaves fewer bytes.
+-- `first_run` is safe and ends.
 -- Assumes nothing.
 use Prim.Native.Nat.{_-_}
 use lib.ListN.{length}
@@ -12,53 +12,8 @@ Inv-loop code i₀ i = Unit {0}
 abbrev μ-loop : tie.MeasureT-loop
 μ-loop code i₀ i = length code - i
 
-loop-holds : tie.Need-loop-holds Inv-loop μ-loop
-loop-holds c = search needs
-
-shared-slice-read-of-run : tie.Need-shared-slice-read-of-run Inv-loop μ-loop
-shared-slice-read-of-run c = search needs
-
-run-length-requires : tie.Need-run-length-requires Inv-loop μ-loop
-run-length-requires c κs = search needs
-
-of-run-requires : tie.Need-of-run-requires Inv-loop μ-loop
-of-run-requires c κs = search needs
-
-begins-requires : tie.Need-begins-requires Inv-loop μ-loop
-begins-requires c κs = search needs
-
-add-t10 : tie.Need-add-t10 Inv-loop μ-loop
-add-t10 c = search needs
-
-returns : tie.Need-returns Inv-loop μ-loop
-returns c = search needs
-
-add-i : tie.Need-add-i Inv-loop μ-loop
-add-i c = search needs
-
-loop-less : tie.Need-loop-less Inv-loop μ-loop
-loop-less c = search needs
-
-loop-again : tie.Need-loop-again Inv-loop μ-loop
-loop-again c = search needs
-
-returns-2 : tie.Need-returns-2 Inv-loop μ-loop
-returns-2 c = search needs
-
 pub first-run-spec : {M : Type 1} → statement M
 first-run-spec =
     tie.close
-    (tie.spec
-    Inv-loop
-    μ-loop
-    loop-holds
-    shared-slice-read-of-run
-    run-length-requires
-    of-run-requires
-    begins-requires
-    add-t10
-    returns
-    add-i
-    loop-less
-    loop-again
-    returns-2)
+    (tie.spec Inv-loop μ-loop (search needs) (search needs) (search needs) (search needs) (search needs) (search needs) (search needs)
+    (search needs) (search needs) (search needs) (search needs))

@@ -1,7 +1,7 @@
--- `run_length` is safe and ends: each turn leaves fewer bytes.
+-- `run_length` is safe and ends: the length is at most the place.
 -- Assumes nothing.
 use Prim.Native.Nat.{_-_, _≤_}
-use lib.ListN.{length}
+use lib.ListN
 use borrow.Author.Needs.{needs}
 use Rattle.telling.proofs.hints.run_length.Statement.{statement}
 use Rattle.telling.proofs.hints.run_length.Tie as tie
@@ -12,53 +12,8 @@ Inv-loop code start i₀ length₀ i length = length ≤ i
 abbrev μ-loop : tie.MeasureT-loop
 μ-loop code start i₀ length₀ i length = lib.ListN.length code - i
 
-loop-holds : tie.Need-loop-holds Inv-loop μ-loop
-loop-holds c = search needs
-
-shared-slice-read-is-letter : tie.Need-shared-slice-read-is-letter Inv-loop μ-loop
-shared-slice-read-is-letter c = search needs
-
-is-letter-requires : tie.Need-is-letter-requires Inv-loop μ-loop
-is-letter-requires c κs = search needs
-
-shared-slice-read-is-digit : tie.Need-shared-slice-read-is-digit Inv-loop μ-loop
-shared-slice-read-is-digit c = search needs
-
-is-digit-requires : tie.Need-is-digit-requires Inv-loop μ-loop
-is-digit-requires c κs = search needs
-
-returns : tie.Need-returns Inv-loop μ-loop
-returns c = search needs
-
-add-i : tie.Need-add-i Inv-loop μ-loop
-add-i c = search needs
-
-add-length : tie.Need-add-length Inv-loop μ-loop
-add-length c = search needs
-
-loop-less : tie.Need-loop-less Inv-loop μ-loop
-loop-less c = search needs
-
-loop-again : tie.Need-loop-again Inv-loop μ-loop
-loop-again c = search needs
-
-returns-2 : tie.Need-returns-2 Inv-loop μ-loop
-returns-2 c = search needs
-
 pub run-length-spec : {M : Type 1} → statement M
 run-length-spec =
     tie.close
-    (tie.spec
-    Inv-loop
-    μ-loop
-    loop-holds
-    shared-slice-read-is-letter
-    is-letter-requires
-    shared-slice-read-is-digit
-    is-digit-requires
-    returns
-    add-i
-    add-length
-    loop-less
-    loop-again
-    returns-2)
+    (tie.spec Inv-loop μ-loop (search needs) (search needs) (search needs) (search needs) (search needs) (search needs) (search needs)
+    (search needs) (search needs) (search needs) (search needs))

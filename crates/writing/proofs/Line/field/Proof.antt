@@ -1,0 +1,17 @@
+-- `field` is safe and ends.
+-- Assumes nothing.
+use Prim.Native.Nat.{_-_}
+use borrow.Author.Needs.{needs}
+use Rattle.writing.proofs.Line.field.Statement.{statement}
+use Rattle.writing.proofs.Line.field.Tie as tie
+
+abbrev Inv-loop : tie.InvT-loop
+Inv-loop self₀ n width rest₀ counter₀ self rest counter = Unit {0}
+
+abbrev μ-loop : tie.MeasureT-loop
+μ-loop self₀ n width rest₀ counter₀ self rest counter = width - counter
+
+pub field-spec : {M : Type 1} → statement M
+field-spec =
+    tie.close
+    (tie.spec Inv-loop μ-loop (search needs) (search needs) (search needs) (search needs) (search needs) (search needs) (search needs))

@@ -1,0 +1,17 @@
+-- `number` is safe and ends: each turn leaves a digit less.
+-- Assumes nothing.
+use borrow.Author.Needs.{needs}
+use Rattle.writing.proofs.Line.number.Statement.{statement}
+use Rattle.writing.proofs.Line.number.Tie as tie
+
+abbrev Inv-loop : tie.InvT-loop
+Inv-loop self₀ n left₀ self left = Unit {0}
+
+abbrev μ-loop : tie.MeasureT-loop
+μ-loop self₀ n left₀ self left = left
+
+pub number-spec : {M : Type 1} → statement M
+number-spec =
+    tie.close
+    (tie.spec Inv-loop μ-loop (search needs) (search needs) (search needs) (search needs) (search needs) (search needs) (search needs)
+    (search needs))

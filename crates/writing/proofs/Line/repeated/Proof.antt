@@ -1,0 +1,17 @@
+-- `repeated` is safe and ends.
+-- Assumes nothing.
+use Prim.Native.Nat.{_-_}
+use borrow.Author.Needs.{needs}
+use Rattle.writing.proofs.Line.repeated.Statement.{statement}
+use Rattle.writing.proofs.Line.repeated.Tie as tie
+
+abbrev Inv-loop : tie.InvT-loop
+Inv-loop self₀ b count counter₀ self counter = Unit {0}
+
+abbrev μ-loop : tie.MeasureT-loop
+μ-loop self₀ b count counter₀ self counter = count - counter
+
+pub repeated-spec : {M : Type 1} → statement M
+repeated-spec =
+    tie.close
+    (tie.spec Inv-loop μ-loop (search needs) (search needs) (search needs) (search needs) (search needs) (search needs))

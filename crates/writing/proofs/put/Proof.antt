@@ -1,0 +1,17 @@
+-- `put` is safe and ends.
+-- Assumes nothing.
+use Prim.Native.Nat.{_-_}
+use borrow.Author.Needs.{needs}
+use Rattle.writing.proofs.put.Statement.{statement}
+use Rattle.writing.proofs.put.Tie as tie
+
+abbrev Inv-loop : tie.InvT-loop
+Inv-loop page₀ held values at₀ i₀ i-end page at i = Unit {0}
+
+abbrev μ-loop : tie.MeasureT-loop
+μ-loop page₀ held values at₀ i₀ i-end page at i = i-end - i
+
+pub put-spec : {M : Type 1} → statement M
+put-spec =
+    tie.close
+    (tie.spec Inv-loop μ-loop (search needs) (search needs) (search needs) (search needs) (search needs) (search needs) (search needs))

@@ -1,0 +1,17 @@
+-- `width` is safe and ends.
+-- Assumes nothing.
+use Prim.Native.Nat.{_-_}
+use borrow.Author.Needs.{needs}
+use Rattle.writing.proofs.width.Statement.{statement}
+use Rattle.writing.proofs.width.Tie as tie
+
+abbrev Inv-loop : tie.InvT-loop
+Inv-loop n rest₀ count₀ rest count = Unit {0}
+
+abbrev μ-loop : tie.MeasureT-loop
+μ-loop n rest₀ count₀ rest count = 20 - count
+
+pub width-spec : {M : Type 1} → statement M
+width-spec =
+    tie.close
+    (tie.spec Inv-loop μ-loop (search needs) (search needs) (search needs) (search needs) (search needs) (search needs) (search needs))
