@@ -8,7 +8,7 @@ use borrow.Author.Tests.{eqb-true}
 use Rattle.text.specs.Lines.{lines}
 use Rattle.text.specs.Forms.{Line}
 use Rattle.text.specs.Faults.{overlong, heard, repeated, undeclared, readOnlyWritten, said, firstFault, howMany, makesCell, makesLabel, makesVariable}
-use Rattle.text.proofs.Heard as Heard
+use Rattle.reading.proofs.Heard as Heard
 use Rattle.translation.specs.Images.{accepted}
 use Rattle.translation.proofs.Accepted.{Clean, all-clean, no-repeated, no-undeclared, no-read-only, few-cells, few-labels, few-variables}
 

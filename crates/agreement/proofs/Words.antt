@@ -8,7 +8,7 @@ use Rattle.numbers.proofs.Truth.{both}
 use Rattle.program.specs.Names.{Name, twoCharacters}
 use Rattle.program.proofs.Keys.{user-two}
 use Rattle.text.specs.Forms.{Line, Blank, Label, Declared, Acts}
-use Rattle.text.proofs.Heard as Heard
+use Rattle.reading.proofs.Heard as Heard
 use Rattle.translation.proofs.Parts.{TwoNamed, AllTwo}
 use Rattle.agreement.proofs.Sound.{Sound, Fine}
 
