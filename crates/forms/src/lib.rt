@@ -331,6 +331,7 @@ fn found(slot: u16, t: Token, u: Token) -> Taken
     operand(t, u)
 }
 
+// The first value where it is asked for, else the second.
 fn chosen(first: bool, x: Value, y: Value) -> Value
     ensures { λ r. ⌜ r ≡ cond first x y ⌝ }
 {
