@@ -14,9 +14,9 @@ use Rattle.bench.proofs.run.Lts as lts
 use Rattle.bench.proofs.answers.refused.Reads as refused-reads
 use Rattle.bench.proofs.answers.state_of.Reads as state-of-reads
 use Rattle.checking.proofs.checked.Reads as checked-reads
-use Rattle.machine.proofs.events.event_count.Reads as event-count-reads
-use Rattle.machine.proofs.events.first_bad_event.Reads as first-bad-event-reads
-use Rattle.machine.proofs.events.is_bad_script.Reads as is-bad-script-reads
+use Rattle.events.proofs.script.event_count.Reads as event-count-reads
+use Rattle.events.proofs.script.first_bad_event.Reads as first-bad-event-reads
+use Rattle.events.proofs.script.is_bad_script.Reads as is-bad-script-reads
 use Rattle.running.proofs.course.Reads as course-reads
 
 -- the image is accepted; the script is whole; its events are good
