@@ -10,10 +10,10 @@ ghost use Rattle.machine.specs.Code.{Inputs};
 ghost use Rattle.running.specs.Courses.{imageCourse};
 ghost use Rattle.running.specs.Visits.{imageVisits};
 ghost use Rattle.running.specs.Code.{DueBefore, courseFrom, EndedAs, VisitedAs};
-use machine::Machine;
+use events::records::write_record;
 use events::script::event_count;
 use events::script::whole_event;
-use events::records::write_record;
+use machine::Machine;
 
 // How a run went: why it ended, after how many turns, with how many bytes of records, and in which state.
 pub struct Ended {

@@ -1,8 +1,8 @@
 // Scripts of events that a person writes: a line for each event, turned into the bytes of the event.
 use events::Event;
 use events::Record;
-use events::script::SIZE;
 use events::records::write_record;
+use events::script::SIZE;
 
 // What was read of a script: how many bytes its events take; or the first line with a fault, from 1, and the fault.
 pub struct Script {

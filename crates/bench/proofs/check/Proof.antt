@@ -9,12 +9,9 @@ use Rattle.bench.proofs.check.Reads as reads
 use Rattle.bench.proofs.check.Lts as lts
 use Rattle.checking.proofs.checked.Reads as checked-reads
 
-checked-requires : tie.Need-checked-requires
-checked-requires c κs = search needs
-
 returns : tie.Need-returns
 unfolding checkedAs
 returns c = record { answers = ap (λ (n : ℕ). record { number = n }) (c .checked .ensures) }
 
 pub check-spec : {M : Type 1} → statement M
-check-spec = tie.close (tie.spec checked-requires returns)
+check-spec = tie.close (tie.spec (search needs) returns)

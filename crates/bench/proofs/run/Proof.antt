@@ -32,20 +32,8 @@ counted c h = rw (c .event-count .ensures) at h
 fine : (c : tie.Else3) → badEvents (c .before .before .before .before .before .before .before .before .before .before .args .events .now) ≡ false
 fine c = no-bad-event _ (c .before .before .first-bad-event .ensures) (rw (c .before .event-count .ensures) at (c .if3 .left))
 
-checked-requires : tie.Need-checked-requires
-checked-requires c κs = search needs
-
-refused-requires : tie.Need-refused-requires
-refused-requires c κs = search needs
-
 returns : tie.Need-returns
 returns c = refused-image _ _ _ _ (c .before .before .checked .ensures) (c .before .if1 .taken) (c .refused .ensures)
-
-is-bad-script-requires : tie.Need-is-bad-script-requires
-is-bad-script-requires c κs = search needs
-
-refused-requires-2 : tie.Need-refused-requires-2
-refused-requires-2 c κs = search needs
 
 returns-2 : tie.Need-returns-2
 returns-2 c = refused-script _ _ _ _ (good-image (c .before .before .before)) (sym (c .before .before .is-bad-script .ensures) ∙ c .before .if2 .taken) (c .refused2 .ensures)
@@ -53,31 +41,16 @@ returns-2 c = refused-script _ _ _ _ (good-image (c .before .before .before)) (s
 first-bad-event-requires : tie.Need-first-bad-event-requires
 first-bad-event-requires c κs = few-events _ (whole c)
 
-event-count-requires : tie.Need-event-count-requires
-event-count-requires c κs = search needs
-
-refused-requires-3 : tie.Need-refused-requires-3
-refused-requires-3 c κs = search needs
-
 returns-3 : tie.Need-returns-3
 returns-3 c =
     let e = c .before .before in
     refused-event _ _ _ _ (good-image (e .before .before .before .before)) (whole (e .before .before)) (e .before .first-bad-event .ensures) (counted e (c .before .if3 .taken)) (c .refused3 .ensures)
-
-refused-requires-4 : tie.Need-refused-requires-4
-refused-requires-4 c κs = search needs
 
 returns-4 : tie.Need-returns-4
 returns-4 c =
     let e = c .before .before in
     let w = e .before .before .before in
     refused-budget _ _ _ _ (good-image (w .before .before)) (whole w) (fine e) (c .before .if4 .taken) (c .refused4 .ensures)
-
-mul-if5 : tie.Need-mul-if5
-mul-if5 c = search needs
-
-refused-requires-5 : tie.Need-refused-requires-5
-refused-requires-5 c κs = search needs
 
 returns-5 : tie.Need-returns-5
 returns-5 c =
@@ -86,22 +59,10 @@ returns-5 c =
     let w = e .before .before .before in
     refused-room _ _ _ _ (good-image (w .before .before)) (whole w) (fine e) (l .if4 .left) (c .before .if5 .taken) (c .refused5 .ensures)
 
-cast-course : tie.Need-cast-course
-cast-course c = search needs
-
 course-requires : tie.Need-course-requires
 course-requires c κs =
     let e = c .before .before .before in
     (whole (e .before .before .before), fine e, c .before .if5 .left)
-
-state-of-requires : tie.Need-state-of-requires
-state-of-requires c κs = search needs
-
-cast-t17 : tie.Need-cast-t17
-cast-t17 c = search needs
-
-same-length : tie.Need-same-length
-same-length c = search needs
 
 returns-6 : tie.Need-returns-6
 returns-6 c =
@@ -115,24 +76,24 @@ pub run-spec : {M : Type 1} → statement M
 run-spec =
     tie.close
     (tie.spec
-    checked-requires
-    refused-requires
+    (search needs)
+    (search needs)
     returns
-    is-bad-script-requires
-    refused-requires-2
+    (search needs)
+    (search needs)
     returns-2
     first-bad-event-requires
-    event-count-requires
-    refused-requires-3
+    (search needs)
+    (search needs)
     returns-3
-    refused-requires-4
+    (search needs)
     returns-4
-    mul-if5
-    refused-requires-5
+    (search needs)
+    (search needs)
     returns-5
-    cast-course
+    (search needs)
     course-requires
-    state-of-requires
-    cast-t17
-    same-length
+    (search needs)
+    (search needs)
+    (search needs)
     returns-6)

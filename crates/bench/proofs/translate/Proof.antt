@@ -32,17 +32,8 @@ small c = few _ (clean c) (tally c)
 size : (c : tie.After-image-length) → c .image-length .result ≡ length (image (c .before .before .before .before .before .before .before .before .before .before .before .before .args .text .now))
 size c = let e = c .before .before .before .before .before in measured _ (clean e) (tally e) (c .image-length .ensures)
 
-not-translated-requires : tie.Need-not-translated-requires
-not-translated-requires c κs = search needs
-
 returns : tie.Need-returns
 returns c = refused-long _ _ (c .before .if1 .taken) (c .not-translated .ensures)
-
-survey-lines-requires : tie.Need-survey-lines-requires
-survey-lines-requires c κs = search needs
-
-not-translated-requires-2 : tie.Need-not-translated-requires-2
-not-translated-requires-2 c κs = search needs
 
 returns-2 : tie.Need-returns-2
 returns-2 c =
@@ -58,12 +49,6 @@ cast-image-length-2 c = let h = small (c .before .before .before) in omega arith
 cast-image-length-3 : tie.Need-cast-image-length-3
 cast-image-length-3 c = let h = small (c .before .before .before .before) in omega arith
 
-image-length-requires : tie.Need-image-length-requires
-image-length-requires c κs = search needs
-
-not-translated-requires-3 : tie.Need-not-translated-requires-3
-not-translated-requires-3 c κs = search needs
-
 returns-3 : tie.Need-returns-3
 returns-3 c =
     let i = c .before .before in
@@ -75,9 +60,6 @@ write-image-requires c κs =
     let i = c .before .before in
     let e = i .before .before .before .before .before in
     (e .before .before .before .before .if1 .left, (clean e, (tally e, rw (i .image-length .ensures) at (c .before .if3 .left))))
-
-same-length : tie.Need-same-length
-same-length c = search needs
 
 returns-4 : tie.Need-returns-4
 unfolding image
@@ -92,17 +74,17 @@ pub translate-spec : {M : Type 1} → statement M
 translate-spec =
     tie.close
     (tie.spec
-    not-translated-requires
+    (search needs)
     returns
-    survey-lines-requires
-    not-translated-requires-2
+    (search needs)
+    (search needs)
     returns-2
     cast-image-length
     cast-image-length-2
     cast-image-length-3
-    image-length-requires
-    not-translated-requires-3
+    (search needs)
+    (search needs)
     returns-3
     write-image-requires
-    same-length
+    (search needs)
     returns-4)

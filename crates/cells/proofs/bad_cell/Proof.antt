@@ -5,17 +5,8 @@ use Rattle.cells.proofs.Layouts.{cell-judged-by}
 use Rattle.cells.proofs.bad_cell.Statement.{statement}
 use Rattle.cells.proofs.bad_cell.Tie as tie
 
-fields-at-requires : tie.Need-fields-at-requires
-fields-at-requires c κs = search needs
-
-good-target-requires : tie.Need-good-target-requires
-good-target-requires c κs = search needs
-
-has-layout-requires : tie.Need-has-layout-requires
-has-layout-requires c κs = search needs
-
 returns : tie.Need-returns
 returns c = let t = c .before in cell-judged-by _ _ (t .before .before .before .pre .1) (t .before .fields-at .ensures) (t .good-target .ensures) (c .has-layout .ensures)
 
 pub bad-cell-spec : {M : Type 1} → statement M
-bad-cell-spec = tie.close (tie.spec fields-at-requires good-target-requires has-layout-requires returns)
+bad-cell-spec = tie.close (tie.spec (search needs) (λ c κs. search needs) (search needs) returns)

@@ -17,20 +17,8 @@ Inv-loop s cells variables marks k₀ k = (k ≤ cells) × (anyBelow k (badCell 
 abbrev μ-loop : tie.MeasureT-loop
 μ-loop s cells variables marks k₀ k = cells - k
 
-cell-count-requires : tie.Need-cell-count-requires Inv-loop μ-loop
-cell-count-requires c κs = search needs
-
-variable-count-requires : tie.Need-variable-count-requires Inv-loop μ-loop
-variable-count-requires c κs = search needs
-
-label-targets-requires : tie.Need-label-targets-requires Inv-loop μ-loop
-label-targets-requires c κs = search needs
-
 loop-holds : tie.Need-loop-holds Inv-loop μ-loop
 loop-holds c = (omega arith, none-yet _)
-
-bad-cell-requires : tie.Need-bad-cell-requires Inv-loop μ-loop
-bad-cell-requires c κs = search needs
 
 returns : tie.Need-returns Inv-loop μ-loop
 unfolding badCells
@@ -59,11 +47,11 @@ bad-cells-spec =
     (tie.spec
     Inv-loop
     μ-loop
-    cell-count-requires
-    variable-count-requires
-    label-targets-requires
+    (search needs)
+    (search needs)
+    (search needs)
     loop-holds
-    bad-cell-requires
+    (λ c κs. search needs)
     returns
     add-k
     loop-less

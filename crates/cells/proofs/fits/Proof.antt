@@ -11,24 +11,15 @@ returns : tie.Need-returns
 unfolding fitsOf useOf
 returns c = rw (ne-eqb _ _ (c .if1 .taken))
 
-good-written-requires : tie.Need-good-written-requires
-good-written-requires c κs = search needs
-
 returns-2 : tie.Need-returns-2
 unfolding fitsOf useOf
 returns-2 c = rw (eq-eqb _ _ (c .before .before .if1 .left), told-false (c .before .good-written .ensures) (c .if2 .taken))
-
-good-selector-requires : tie.Need-good-selector-requires
-good-selector-requires c κs = search needs
 
 returns-3 : tie.Need-returns-3
 unfolding fitsOf useOf
 returns-3 c =
     let w = c .before .before .before in
     rw (eq-eqb _ _ (w .before .if1 .left), told-true (w .good-written .ensures) (c .before .before .if2 .left), told-false (c .before .good-selector .ensures) (c .if3 .taken))
-
-good-operand-requires : tie.Need-good-operand-requires
-good-operand-requires c κs = search needs
 
 returns-4 : tie.Need-returns-4
 unfolding fitsOf useOf
@@ -41,9 +32,6 @@ returns-4 c =
       told-true (n .good-selector .ensures) (c .before .before .before .if3 .left),
       told-false (c .before .good-operand .ensures) (c .if4 .taken),
     )
-
-good-operand-requires-2 : tie.Need-good-operand-requires-2
-good-operand-requires-2 c κs = search needs
 
 returns-5 : tie.Need-returns-5
 unfolding fitsOf useOf
@@ -96,13 +84,13 @@ fits-spec =
     tie.close
     (tie.spec
     returns
-    good-written-requires
+    (search needs)
     returns-2
-    good-selector-requires
+    (search needs)
     returns-3
-    good-operand-requires
+    (search needs)
     returns-4
-    good-operand-requires-2
+    (search needs)
     returns-5
     returns-6
     returns-7)

@@ -6,12 +6,6 @@ use Rattle.image.specs.Check.{goodOperand}
 use Rattle.cells.proofs.good_operand.Statement.{statement}
 use Rattle.cells.proofs.good_operand.Tie as tie
 
-is-literal-requires : tie.Need-is-literal-requires
-is-literal-requires c κs = search needs
-
-is-present-requires : tie.Need-is-present-requires
-is-present-requires c κs = search needs
-
 returns : tie.Need-returns
 unfolding goodOperand literalBits
 returns c = rw (c .before .before .if1 .taken, c .is-present .ensures, c .before .is-literal .ensures)
@@ -21,4 +15,4 @@ unfolding goodOperand
 returns-2 c = rw (c .if1 .left)
 
 pub good-operand-spec : {M : Type 1} → statement M
-good-operand-spec = tie.close (tie.spec is-literal-requires is-present-requires returns returns-2)
+good-operand-spec = tie.close (tie.spec (search needs) (search needs) returns returns-2)

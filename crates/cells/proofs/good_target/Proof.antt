@@ -11,15 +11,9 @@ returns : tie.Need-returns
 unfolding goodTarget noTarget
 returns c = rw (c .if1 .taken)
 
-element-copy-out-result : tie.Need-element-copy-out-result
-element-copy-out-result c = search needs
-
 returns-2 : tie.Need-returns-2
 unfolding goodTarget noTarget
 returns-2 c = rw (c .before .before .if1 .left) (c .before .before .before .before .pre .each _ (c .before .if2 .taken))
-
-is-label-target-requires : tie.Need-is-label-target-requires
-is-label-target-requires c κs = search needs
 
 returns-3 : tie.Need-returns-3
 unfolding goodTarget noTarget labelled
@@ -28,4 +22,4 @@ returns-3 c = rw (c .before .before .if1 .left, c .is-label-target .ensures)
 pub good-target-spec : {M : Type 1} → statement M
 good-target-spec =
     tie.close
-    (tie.spec returns element-copy-out-result returns-2 is-label-target-requires returns-3)
+    (tie.spec returns (search needs) returns-2 (search needs) returns-3)

@@ -5,12 +5,6 @@ use Rattle.image.specs.Check.{goodWritten}
 use Rattle.cells.proofs.good_written.Statement.{statement}
 use Rattle.cells.proofs.good_written.Tie as tie
 
-is-present-requires : tie.Need-is-present-requires
-is-present-requires c κs = search needs
-
-is-read-only-requires : tie.Need-is-read-only-requires
-is-read-only-requires c κs = search needs
-
 returns : tie.Need-returns
 unfolding goodWritten
 returns c = rw (c .before .before .if1 .taken, c .is-read-only .ensures, c .before .is-present .ensures)
@@ -21,4 +15,4 @@ returns-2 c = rw (c .if1 .left)
 
 pub good-written-spec : {M : Type 1} → statement M
 good-written-spec =
-    tie.close (tie.spec is-present-requires is-read-only-requires returns returns-2)
+    tie.close (tie.spec (search needs) (search needs) returns returns-2)

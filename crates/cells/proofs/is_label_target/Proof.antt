@@ -20,17 +20,8 @@ Inv-loop s target cells labels k₀ k = (k ≤ labels) × (anyBelow k (λ j. eqb
 abbrev μ-loop : tie.MeasureT-loop
 μ-loop s target cells labels k₀ k = labels - k
 
-cell-count-requires : tie.Need-cell-count-requires Inv-loop μ-loop
-cell-count-requires c κs = search needs
-
-label-count-requires : tie.Need-label-count-requires Inv-loop μ-loop
-label-count-requires c κs = search needs
-
 loop-holds : tie.Need-loop-holds Inv-loop μ-loop
 loop-holds c = (omega arith, none-yet _)
-
-target-at-requires : tie.Need-target-at-requires Inv-loop μ-loop
-target-at-requires c κs = search needs
 
 -- what a turn looks at
 looked : (c : tie.After-target-at Inv-loop μ-loop)
@@ -61,10 +52,10 @@ is-label-target-spec =
     (tie.spec
     Inv-loop
     μ-loop
-    cell-count-requires
-    label-count-requires
+    (search needs)
+    (search needs)
     loop-holds
-    target-at-requires
+    (search needs)
     returns
     add-k
     loop-less

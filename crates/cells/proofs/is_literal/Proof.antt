@@ -8,17 +8,8 @@ use Rattle.cells.specs.Code.{literalBits}
 use Rattle.cells.proofs.is_literal.Statement.{statement}
 use Rattle.cells.proofs.is_literal.Tie as tie
 
-literals-requires : tie.Need-literals-requires
-literals-requires c κs = search needs
-
-signed-requires : tie.Need-signed-requires
-signed-requires c κs = search needs
-
 cast-holds : tie.Need-cast-holds
 cast-holds c = wide (fit32 (c .signed .result) (c .signed .ok))
-
-holds-requires : tie.Need-holds-requires
-holds-requires c κs = search needs
 
 returns : tie.Need-returns
 unfolding literalBits
@@ -26,4 +17,4 @@ returns c = simp (back64 (fit32 (c .before .signed .result) (c .before .signed .
 
 pub is-literal-spec : {M : Type 1} → statement M
 is-literal-spec =
-    tie.close (tie.spec literals-requires signed-requires cast-holds holds-requires returns)
+    tie.close (tie.spec (search needs) (search needs) cast-holds (search needs) returns)

@@ -17,26 +17,11 @@ Inv-loop s cells labels marks₀ k₀ marks k = (k ≤ labels) × Marked 257 (la
 abbrev μ-loop : tie.MeasureT-loop
 μ-loop s cells labels marks₀ k₀ marks k = labels - k
 
-cell-count-requires : tie.Need-cell-count-requires Inv-loop μ-loop
-cell-count-requires c κs = search needs
-
-label-count-requires : tie.Need-label-count-requires Inv-loop μ-loop
-label-count-requires c κs = search needs
-
 loop-holds : tie.Need-loop-holds Inv-loop μ-loop
 loop-holds c = (omega arith, unmarked 257 _)
 
 slice-aggregate-mark : tie.Need-slice-aggregate-mark Inv-loop μ-loop
 slice-aggregate-mark c = sym (c .before .before .loop .inv .1 .long)
-
-target-at-requires : tie.Need-target-at-requires Inv-loop μ-loop
-target-at-requires c κs = search needs
-
-cast-mark : tie.Need-cast-mark Inv-loop μ-loop
-cast-mark c = search needs
-
-mark-requires : tie.Need-mark-requires Inv-loop μ-loop
-mark-requires c κs = search needs
 
 -- what a turn marks
 looked : (c : tie.After-target-at Inv-loop μ-loop)
@@ -69,13 +54,13 @@ label-targets-spec =
     (tie.spec
     Inv-loop
     μ-loop
-    cell-count-requires
-    label-count-requires
+    (search needs)
+    (search needs)
     loop-holds
     slice-aggregate-mark
-    target-at-requires
-    cast-mark
-    mark-requires
+    (search needs)
+    (search needs)
+    (search needs)
     add-k
     loop-less
     loop-again

@@ -9,14 +9,5 @@ use Rattle.cells.proofs.mark.Tie as tie
 returns : tie.Need-returns
 returns c = sym (set-out _ _ _ (c .if1 .taken))
 
-slice-write-marks : tie.Need-slice-write-marks
-slice-write-marks c = search needs
-
-same-length : tie.Need-same-length
-same-length c = search needs
-
-returns-2 : tie.Need-returns-2
-returns-2 c = search needs
-
 pub mark-spec : {M : Type 1} → statement M
-mark-spec = tie.close (tie.spec returns slice-write-marks same-length returns-2)
+mark-spec = tie.close (tie.spec returns (search needs) (search needs) (search needs))

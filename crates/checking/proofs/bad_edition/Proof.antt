@@ -5,12 +5,9 @@ use Rattle.image.specs.Check.{badEdition}
 use Rattle.checking.proofs.bad_edition.Statement.{statement}
 use Rattle.checking.proofs.bad_edition.Tie as tie
 
-edition-requires : tie.Need-edition-requires
-edition-requires c κs = search needs
-
 returns : tie.Need-returns
 unfolding badEdition
 returns c = rw (c .edition .ensures)
 
 pub bad-edition-spec : {M : Type 1} → statement M
-bad-edition-spec = tie.close (tie.spec edition-requires returns)
+bad-edition-spec = tie.close (tie.spec (search needs) returns)

@@ -25,15 +25,6 @@ Inv-loop s cells labels names seen₀ k₀ seen k =
 abbrev μ-loop : tie.MeasureT-loop
 μ-loop s cells labels names seen₀ k₀ seen k = names - k
 
-cell-count-requires : tie.Need-cell-count-requires Inv-loop μ-loop
-cell-count-requires c κs = search needs
-
-label-count-requires : tie.Need-label-count-requires Inv-loop μ-loop
-label-count-requires c κs = search needs
-
-variable-count-requires : tie.Need-variable-count-requires Inv-loop μ-loop
-variable-count-requires c κs = search needs
-
 -- the records are few
 few : (c : tie.After-variable-count Inv-loop μ-loop) → c .before .label-count .result + c .variable-count .result ≤ 192
 few c = let f = fitting _ (c .before .before .before .before .pre) in omega (arith, f .labels, f .variables, c .variable-count .ensures, c .before .label-count .ensures)
@@ -43,12 +34,6 @@ add-names c = omega (arith, few c)
 
 loop-holds : tie.Need-loop-holds Inv-loop μ-loop
 loop-holds c = (omega arith, none-yet _, unmarked 23296 _)
-
-key-at-requires : tie.Need-key-at-requires Inv-loop μ-loop
-key-at-requires c κs = search needs
-
-is-user-name-requires : tie.Need-is-user-name-requires Inv-loop μ-loop
-is-user-name-requires c κs = search needs
 
 -- what a turn looks at
 looked : (c : tie.After-is-user-name Inv-loop μ-loop)
@@ -74,9 +59,6 @@ returns c =
     let v = l .before in
     that-is _ (l .loop .k) (ap₂ (λ (l v : ℕ). l + v) (v .before .label-count .ensures) (v .variable-count .ensures)) (u .before .before .loop-test .taken)
     (looked u) (not-users _ _ _ _ (u .before .key-at .ensures) (u .is-user-name .ensures) (c .if1 .taken))
-
-cast-i : tie.Need-cast-i Inv-loop μ-loop
-cast-i c = search needs
 
 array-read-if2 : tie.Need-array-read-if2 Inv-loop μ-loop
 array-read-if2 c = let u = c .before in key-inside _ _ _ _ (u .before .key-at .ensures) (u .is-user-name .ensures) (c .if1 .left)
@@ -121,15 +103,15 @@ bad-names-spec =
     (tie.spec
     Inv-loop
     μ-loop
-    cell-count-requires
-    label-count-requires
-    variable-count-requires
+    (search needs)
+    (search needs)
+    (search needs)
     add-names
     loop-holds
-    key-at-requires
-    is-user-name-requires
+    (search needs)
+    (search needs)
     returns
-    cast-i
+    (search needs)
     array-read-if2
     returns-2
     array-write-seen

@@ -5,22 +5,13 @@ use Rattle.image.specs.Check.{badRecords}
 use Rattle.checking.proofs.bad_records.Statement.{statement}
 use Rattle.checking.proofs.bad_records.Tie as tie
 
-bad-names-requires : tie.Need-bad-names-requires
-bad-names-requires c κs = search needs
-
 returns : tie.Need-returns
 unfolding badRecords
 returns c = rw (← c .before .bad-names .ensures, c .if1 .taken)
 
-bad-targets-requires : tie.Need-bad-targets-requires
-bad-targets-requires c κs = search needs
-
 returns-2 : tie.Need-returns-2
 unfolding badRecords
 returns-2 c = rw (← c .before .before .before .bad-names .ensures, c .before .before .if1 .left, ← c .before .bad-targets .ensures, c .if2 .taken)
-
-bad-starts-requires : tie.Need-bad-starts-requires
-bad-starts-requires c κs = search needs
 
 returns-3 : tie.Need-returns-3
 unfolding badRecords
@@ -30,9 +21,9 @@ pub bad-records-spec : {M : Type 1} → statement M
 bad-records-spec =
     tie.close
     (tie.spec
-    bad-names-requires
+    (λ c κs. search needs)
     returns
-    bad-targets-requires
+    (search needs)
     returns-2
-    bad-starts-requires
+    (search needs)
     returns-3)

@@ -20,20 +20,8 @@ Inv-loop s cells labels variables k₀ k = (k ≤ variables) × (anyBelow k (bad
 abbrev μ-loop : tie.MeasureT-loop
 μ-loop s cells labels variables k₀ k = variables - k
 
-cell-count-requires : tie.Need-cell-count-requires Inv-loop μ-loop
-cell-count-requires c κs = search needs
-
-label-count-requires : tie.Need-label-count-requires Inv-loop μ-loop
-label-count-requires c κs = search needs
-
-variable-count-requires : tie.Need-variable-count-requires Inv-loop μ-loop
-variable-count-requires c κs = search needs
-
 loop-holds : tie.Need-loop-holds Inv-loop μ-loop
 loop-holds c = (omega arith, none-yet _)
-
-bad-start-requires : tie.Need-bad-start-requires Inv-loop μ-loop
-bad-start-requires c κs = search needs
 
 -- what a turn looks at
 looked : (c : tie.After-bad-start Inv-loop μ-loop) → c .bad-start .result ≡ badStart (c .before .before .before .before .before .before .before .args .s .now) (c .before .before .loop .k)
@@ -61,11 +49,11 @@ bad-starts-spec =
     (tie.spec
     Inv-loop
     μ-loop
-    cell-count-requires
-    label-count-requires
-    variable-count-requires
+    (search needs)
+    (search needs)
+    (search needs)
     loop-holds
-    bad-start-requires
+    (search needs)
     returns
     add-k
     loop-less

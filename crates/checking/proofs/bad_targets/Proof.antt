@@ -20,17 +20,8 @@ Inv-loop s cells labels k₀ k = (k ≤ labels) × (anyBelow k (badTarget s) ≡
 abbrev μ-loop : tie.MeasureT-loop
 μ-loop s cells labels k₀ k = labels - k
 
-cell-count-requires : tie.Need-cell-count-requires Inv-loop μ-loop
-cell-count-requires c κs = search needs
-
-label-count-requires : tie.Need-label-count-requires Inv-loop μ-loop
-label-count-requires c κs = search needs
-
 loop-holds : tie.Need-loop-holds Inv-loop μ-loop
 loop-holds c = (omega arith, none-yet _)
-
-bad-target-requires : tie.Need-bad-target-requires Inv-loop μ-loop
-bad-target-requires c κs = search needs
 
 -- what a turn looks at
 looked : (c : tie.After-bad-target Inv-loop μ-loop) → c .bad-target .result ≡ badTarget (c .before .before .before .before .before .before .args .s .now) (c .before .before .loop .k)
@@ -58,10 +49,10 @@ bad-targets-spec =
     (tie.spec
     Inv-loop
     μ-loop
-    cell-count-requires
-    label-count-requires
+    (search needs)
+    (search needs)
     loop-holds
-    bad-target-requires
+    (search needs)
     returns
     add-k
     loop-less

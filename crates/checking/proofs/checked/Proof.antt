@@ -21,29 +21,17 @@ trailer-good c = sym (c .before .bad-trailer .ensures) ∙ c .if3 .left
 cells-good : (c : tie.Else4) → badCells (c .before .before .before .before .before .before .before .before .before .args .s .now) ≡ false
 cells-good c = sym (c .before .bad-cells .ensures) ∙ c .if4 .left
 
-bad-length-requires : tie.Need-bad-length-requires
-bad-length-requires c κs = search needs
-
 returns : tie.Need-returns
 unfolding checked lowest imageFaults
 returns c = rw (sym (c .before .bad-length .ensures) ∙ c .if1 .taken)
-
-bad-edition-requires : tie.Need-bad-edition-requires
-bad-edition-requires c κs = search needs
 
 returns-2 : tie.Need-returns-2
 unfolding checked lowest imageFaults
 returns-2 c = rw (length-good (c .before .before), sym (c .before .bad-edition .ensures) ∙ c .if2 .taken)
 
-bad-trailer-requires : tie.Need-bad-trailer-requires
-bad-trailer-requires c κs = search needs
-
 returns-3 : tie.Need-returns-3
 unfolding checked lowest imageFaults
 returns-3 c = rw (length-good (c .before .before .before .before), edition-good (c .before .before), sym (c .before .bad-trailer .ensures) ∙ c .if3 .taken)
-
-bad-cells-requires : tie.Need-bad-cells-requires
-bad-cells-requires c κs = search needs
 
 returns-4 : tie.Need-returns-4
 unfolding checked lowest imageFaults
@@ -64,13 +52,13 @@ pub checked-spec : {M : Type 1} → statement M
 checked-spec =
     tie.close
     (tie.spec
-    bad-length-requires
+    (search needs)
     returns
-    bad-edition-requires
+    (search needs)
     returns-2
-    bad-trailer-requires
+    (search needs)
     returns-3
-    bad-cells-requires
+    (search needs)
     returns-4
     bad-records-requires
     returns-5

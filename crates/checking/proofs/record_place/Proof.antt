@@ -6,15 +6,9 @@ use Rattle.checking.specs.Code.{recordPlaceOf}
 use Rattle.checking.proofs.record_place.Statement.{statement}
 use Rattle.checking.proofs.record_place.Tie as tie
 
-label-place-requires : tie.Need-label-place-requires
-label-place-requires c κs = search needs
-
 returns : tie.Need-returns
 unfolding recordPlaceOf
 returns c = rw (c .label-place .ensures, lt-ltb _ _ (c .before .if1 .taken))
-
-variable-place-requires : tie.Need-variable-place-requires
-variable-place-requires c κs = search needs
 
 returns-2 : tie.Need-returns-2
 unfolding recordPlaceOf
@@ -22,4 +16,4 @@ returns-2 c = rw (c .variable-place .ensures, le-ltb _ _ (c .before .if1 .left))
 
 pub record-place-spec : {M : Type 1} → statement M
 record-place-spec =
-    tie.close (tie.spec label-place-requires returns variable-place-requires returns-2)
+    tie.close (tie.spec (search needs) returns (search needs) returns-2)

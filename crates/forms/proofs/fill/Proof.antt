@@ -18,9 +18,6 @@ Inv-loop form ts m₀ k₀ m k = (k ≤ 6) × (m .place ≤ 2 * k) × (fillBy (d
 abbrev μ-loop : tie.MeasureT-loop
 μ-loop form ts m₀ k₀ m k = 6 - k
 
-none-requires : tie.Need-none-requires Inv-loop μ-loop
-none-requires c κs = search needs
-
 loop-holds : tie.Need-loop-holds Inv-loop μ-loop
 loop-holds c = (omega arith, rw (c .none .ensures) (omega arith), ap (λ (m : Match). fillBy (slotsOf (c .before .args .form)) (c .before .args .ts .at) m) (c .none .ensures))
 
@@ -33,14 +30,8 @@ returns c =
 slot-at-requires : tie.Need-slot-at-requires Inv-loop μ-loop
 slot-at-requires c κs = omega arith
 
-token-requires : tie.Need-token-requires Inv-loop μ-loop
-token-requires c κs = search needs
-
 add-token : tie.Need-add-token Inv-loop μ-loop
 add-token c = omega arith
-
-token-requires-2 : tie.Need-token-requires-2 Inv-loop μ-loop
-token-requires-2 c κs = search needs
 
 slot-requires : tie.Need-slot-requires Inv-loop μ-loop
 slot-requires c κs = omega arith
@@ -78,13 +69,13 @@ fill-spec =
     (tie.spec
     Inv-loop
     μ-loop
-    none-requires
+    (search needs)
     loop-holds
     returns
     slot-at-requires
-    token-requires
+    (search needs)
     add-token
-    token-requires-2
+    (search needs)
     slot-requires
     add-k
     loop-less

@@ -6,36 +6,21 @@ use Rattle.forms.specs.Code.{fitsBy}
 use Rattle.forms.proofs.fits.Statement.{statement}
 use Rattle.forms.proofs.fits.Tie as tie
 
-has-two-characters-requires : tie.Need-has-two-characters-requires
-has-two-characters-requires c κs = search needs
-
 returns : tie.Need-returns
 unfolding fitsBy
 returns c = rw (c .has-two-characters .ensures) (search tests)
-
-is-user-name-requires : tie.Need-is-user-name-requires
-is-user-name-requires c κs = search needs
 
 returns-2 : tie.Need-returns-2
 unfolding fitsBy
 returns-2 c = rw (c .is-user-name .ensures) (search tests)
 
-is-variable-requires : tie.Need-is-variable-requires
-is-variable-requires c κs = search needs
-
 returns-3 : tie.Need-returns-3
 unfolding fitsBy
 returns-3 c = rw (c .is-variable .ensures) (search tests)
 
-is-operator-requires : tie.Need-is-operator-requires
-is-operator-requires c κs = search needs
-
 returns-4 : tie.Need-returns-4
 unfolding fitsBy
 returns-4 c = rw (c .is-operator .ensures) (search tests)
-
-is-comparison-requires : tie.Need-is-comparison-requires
-is-comparison-requires c κs = search needs
 
 returns-5 : tie.Need-returns-5
 unfolding fitsBy
@@ -49,14 +34,14 @@ pub fits-spec : {M : Type 1} → statement M
 fits-spec =
     tie.close
     (tie.spec
-    has-two-characters-requires
+    (search needs)
     returns
-    is-user-name-requires
+    (search needs)
     returns-2
-    is-variable-requires
+    (search needs)
     returns-3
-    is-operator-requires
+    (search needs)
     returns-4
-    is-comparison-requires
+    (search needs)
     returns-5
     returns-6)

@@ -6,19 +6,13 @@ use Rattle.forms.specs.Code.{foundBy}
 use Rattle.forms.proofs.found.Statement.{statement}
 use Rattle.forms.proofs.found.Tie as tie
 
-literal-requires : tie.Need-literal-requires
-literal-requires c κs = search needs
-
 returns : tie.Need-returns
 unfolding foundBy
 returns c = rw (c .literal .ensures) (search tests)
-
-operand-requires : tie.Need-operand-requires
-operand-requires c κs = search needs
 
 returns-2 : tie.Need-returns-2
 unfolding foundBy
 returns-2 c = rw (c .operand .ensures) (search tests)
 
 pub found-spec : {M : Type 1} → statement M
-found-spec = tie.close (tie.spec literal-requires returns operand-requires returns-2)
+found-spec = tie.close (tie.spec (search needs) returns (search needs) returns-2)

@@ -13,16 +13,10 @@ use Rattle.text.proofs.Signs.{operatorSigns, operator-placed}
 use Rattle.forms.proofs.is_operator.Statement.{statement}
 use Rattle.forms.proofs.is_operator.Tie as tie
 
-slice-aggregate-place-in : tie.Need-slice-aggregate-place-in
-slice-aggregate-place-in c = search needs
-
-place-in-requires : tie.Need-place-in-requires
-place-in-requires c κs = search needs
-
 returns : tie.Need-returns
 unfolding isOperator operatorSigns operatorSign ascii namesOf nameOf number
 returns c =
     ap (λ (n : ℕ). not (eqb n 0)) (c .place-in .ensures) ∙ sym (operator-placed (nameOf (c .before .before .args .key)) .sign)
 
 pub is-operator-spec : {M : Type 1} → statement M
-is-operator-spec = tie.close (tie.spec slice-aggregate-place-in place-in-requires returns)
+is-operator-spec = tie.close (tie.spec (search needs) (search needs) returns)

@@ -5,12 +5,6 @@ use Rattle.forms.proofs.Matching.{operand-variable, operand-literal}
 use Rattle.forms.proofs.operand.Statement.{statement}
 use Rattle.forms.proofs.operand.Tie as tie
 
-literal-requires : tie.Need-literal-requires
-literal-requires c κs = search needs
-
-variable-requires : tie.Need-variable-requires
-variable-requires c κs = search needs
-
 returns : tie.Need-returns
 returns c =
     let l = c .before .before .before in
@@ -24,4 +18,4 @@ returns-2 c =
     operand-literal (a .t) (a .u) (l .literal .ensures) (c .if1 .left)
 
 pub operand-spec : {M : Type 1} → statement M
-operand-spec = tie.close (tie.spec literal-requires variable-requires returns returns-2)
+operand-spec = tie.close (tie.spec (search needs) (search needs) returns returns-2)

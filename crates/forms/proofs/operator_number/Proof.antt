@@ -14,12 +14,6 @@ use Rattle.text.proofs.Signs.{operatorSigns, operator-placed, none-found, sign-
 use Rattle.forms.proofs.operator_number.Statement.{statement}
 use Rattle.forms.proofs.operator_number.Tie as tie
 
-slice-aggregate-place-in : tie.Need-slice-aggregate-place-in
-slice-aggregate-place-in c = search needs
-
-place-in-requires : tie.Need-place-in-requires
-place-in-requires c κs = search needs
-
 -- The place that is found is that of the sign.
 at : (c : tie.After-place-in) → c .place-in .result ≡ numbered operatorSigns (nameOf (c .before .before .args .key))
 unfolding operatorSigns operatorSign ascii namesOf nameOf number
@@ -38,4 +32,4 @@ unfolding operatorBy
 returns-2 c = sign-found (operator-placed (nameOf _)) (at (c .before)) (search needs)
 
 pub operator-number-spec : {M : Type 1} → statement M
-operator-number-spec = tie.close (tie.spec slice-aggregate-place-in place-in-requires returns cast-result returns-2)
+operator-number-spec = tie.close (tie.spec (search needs) (search needs) returns cast-result returns-2)

@@ -6,9 +6,6 @@ use Rattle.forms.specs.Code.{variableBy}
 use Rattle.forms.proofs.variable.Statement.{statement}
 use Rattle.forms.proofs.variable.Tie as tie
 
-is-variable-requires : tie.Need-is-variable-requires
-is-variable-requires c κs = search needs
-
 returns : tie.Need-returns
 unfolding variableBy
 returns c = rw (sym (c .before .is-variable .ensures) ∙ c .if1 .taken)
@@ -18,4 +15,4 @@ unfolding variableBy
 returns-2 c = rw (sym (c .before .is-variable .ensures) ∙ c .if1 .left)
 
 pub variable-spec : {M : Type 1} → statement M
-variable-spec = tie.close (tie.spec is-variable-requires returns returns-2)
+variable-spec = tie.close (tie.spec (search needs) returns returns-2)

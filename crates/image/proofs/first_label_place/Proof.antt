@@ -5,15 +5,9 @@ use Rattle.image.specs.Layout.{firstLabelPlace}
 use Rattle.image.proofs.first_label_place.Statement.{statement}
 use Rattle.image.proofs.first_label_place.Tie as tie
 
-trailer-place-requires : tie.Need-trailer-place-requires
-trailer-place-requires c κs = search needs
-
-read4-requires : tie.Need-read4-requires
-read4-requires c κs = search needs
-
 returns : tie.Need-returns
 unfolding firstLabelPlace
 returns c = rw (← c .before .trailer-place .ensures) (c .read4 .ensures)
 
 pub first-label-place-spec : {M : Type 1} → statement M
-first-label-place-spec = tie.close (tie.spec trailer-place-requires read4-requires returns)
+first-label-place-spec = tie.close (tie.spec (search needs) (search needs) returns)

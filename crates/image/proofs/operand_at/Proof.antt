@@ -9,12 +9,6 @@ use Rattle.image.specs.Layout.{operandAt}
 use Rattle.image.proofs.operand_at.Statement.{statement}
 use Rattle.image.proofs.operand_at.Tie as tie
 
-read4-requires : tie.Need-read4-requires
-read4-requires c κs = search needs
-
-signed-requires : tie.Need-signed-requires
-signed-requires c κs = search needs
-
 returns : tie.Need-returns
 unfolding operandAt
 returns c = rw (c .before .if1 .taken) (ap Literal (back32 (fit32 _ (c .signed .ok)) ∙ c .signed .ensures ∙ ap signed32 (c .before .before .read4 .ensures)))
@@ -28,4 +22,4 @@ unfolding operandAt
 returns-3 c = search tests
 
 pub operand-at-spec : {M : Type 1} → statement M
-operand-at-spec = tie.close (tie.spec read4-requires signed-requires returns returns-2 returns-3)
+operand-at-spec = tie.close (tie.spec (search needs) (search needs) returns returns-2 returns-3)

@@ -10,12 +10,9 @@ returns : tie.Need-returns
 unfolding trailerPlace
 returns c = omega arith
 
-sub-result : tie.Need-sub-result
-sub-result c = search needs
-
 returns-2 : tie.Need-returns-2
 unfolding trailerPlace
 returns-2 c = omega arith
 
 pub trailer-place-spec : {M : Type 1} → statement M
-trailer-place-spec = tie.close (tie.spec returns sub-result returns-2)
+trailer-place-spec = tie.close (tie.spec returns (search needs) returns-2)

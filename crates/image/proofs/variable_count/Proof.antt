@@ -7,18 +7,12 @@ use Rattle.image.proofs.Laws.{trailer-room}
 use Rattle.image.proofs.variable_count.Statement.{statement}
 use Rattle.image.proofs.variable_count.Tie as tie
 
-trailer-place-requires : tie.Need-trailer-place-requires
-trailer-place-requires c κs = search needs
-
 add-read2 : tie.Need-add-read2
 add-read2 c = omega (arith, trailer-room _ (c .trailer-place .ensures))
-
-read2-requires : tie.Need-read2-requires
-read2-requires c κs = search needs
 
 returns : tie.Need-returns
 unfolding variableCount
 returns c = rw (← c .before .trailer-place .ensures) (c .read2 .ensures)
 
 pub variable-count-spec : {M : Type 1} → statement M
-variable-count-spec = tie.close (tie.spec trailer-place-requires add-read2 read2-requires returns)
+variable-count-spec = tie.close (tie.spec (search needs) add-read2 (search needs) returns)

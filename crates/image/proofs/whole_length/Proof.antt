@@ -7,18 +7,12 @@ use Rattle.image.proofs.Laws.{trailer-room}
 use Rattle.image.proofs.whole_length.Statement.{statement}
 use Rattle.image.proofs.whole_length.Tie as tie
 
-trailer-place-requires : tie.Need-trailer-place-requires
-trailer-place-requires c κs = search needs
-
 add-read4 : tie.Need-add-read4
 add-read4 c = omega (arith, trailer-room _ (c .trailer-place .ensures))
-
-read4-requires : tie.Need-read4-requires
-read4-requires c κs = search needs
 
 returns : tie.Need-returns
 unfolding wholeLength
 returns c = rw (← c .before .trailer-place .ensures) (c .read4 .ensures)
 
 pub whole-length-spec : {M : Type 1} → statement M
-whole-length-spec = tie.close (tie.spec trailer-place-requires add-read4 read4-requires returns)
+whole-length-spec = tie.close (tie.spec (search needs) add-read4 (search needs) returns)

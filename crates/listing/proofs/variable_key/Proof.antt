@@ -7,26 +7,8 @@ use Rattle.listing.proofs.Keys.{paper-key, record-key}
 use Rattle.listing.proofs.variable_key.Statement.{statement}
 use Rattle.listing.proofs.variable_key.Tie as tie
 
-key-requires : tie.Need-key-requires
-key-requires c κs = search needs
-
 returns : tie.Need-returns
 returns c = c .key .ensures ∙ paper-key _ _ (c .before .if1 .taken)
-
-cell-count-requires : tie.Need-cell-count-requires
-cell-count-requires c κs = search needs
-
-label-count-requires : tie.Need-label-count-requires
-label-count-requires c κs = search needs
-
-cast-variable-place : tie.Need-cast-variable-place
-cast-variable-place c = search needs
-
-variable-place-requires : tie.Need-variable-place-requires
-variable-place-requires c κs = search needs
-
-read2-requires : tie.Need-read2-requires
-read2-requires c κs = search needs
 
 returns-2 : tie.Need-returns-2
 unfolding variablePlace
@@ -40,11 +22,11 @@ pub variable-key-spec : {M : Type 1} → statement M
 variable-key-spec =
     tie.close
     (tie.spec
-    key-requires
+    (search needs)
     returns
-    cell-count-requires
-    label-count-requires
-    cast-variable-place
-    variable-place-requires
-    read2-requires
+    (search needs)
+    (search needs)
+    (search needs)
+    (search needs)
+    (search needs)
     returns-2)

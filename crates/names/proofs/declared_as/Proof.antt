@@ -24,18 +24,6 @@ loop-holds c = (omega arith, refl)
 line-at-requires : tie.Need-line-at-requires Inv-loop μ-loop
 line-at-requires c κs = omega arith
 
-sub-declared-in : tie.Need-sub-declared-in Inv-loop μ-loop
-sub-declared-in c = search needs
-
-part-declared-in-start : tie.Need-part-declared-in-start Inv-loop μ-loop
-part-declared-in-start c = search needs
-
-part-declared-in-end : tie.Need-part-declared-in-end Inv-loop μ-loop
-part-declared-in-end c = search needs
-
-declared-in-requires : tie.Need-declared-in-requires Inv-loop μ-loop
-declared-in-requires c κs = search needs
-
 returns : tie.Need-returns Inv-loop μ-loop
 returns c =
     let d = c .before in
@@ -72,10 +60,10 @@ declared-as-spec =
     μ-loop
     loop-holds
     line-at-requires
-    sub-declared-in
-    part-declared-in-start
-    part-declared-in-end
-    declared-in-requires
+    (search needs)
+    (search needs)
+    (search needs)
+    (search needs)
     returns
     loop-less
     loop-again

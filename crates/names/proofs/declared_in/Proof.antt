@@ -10,12 +10,6 @@ use Rattle.names.proofs.Finding.{no-head, read-declares, read-not}
 use Rattle.names.proofs.declared_in.Statement.{statement}
 use Rattle.names.proofs.declared_in.Tie as tie
 
-line-head-requires : tie.Need-line-head-requires
-line-head-requires c κs = search needs
-
-is-declaring-requires : tie.Need-is-declaring-requires
-is-declaring-requires c κs = search needs
-
 returns : tie.Need-returns
 returns c =
     let d = c .before .before in
@@ -23,12 +17,6 @@ returns c =
     let a = h .before .before .args in
     no-head (now (a .l)) (a .key) (h .line-head .result) (h .line-head .ensures)
     (ap (λ (b : Bool). b && eqb (h .line-head .result .name) (a .key)) (sym (d .is-declaring .ensures)) ∙ not-true _ (c .if1 .taken))
-
-read-line-requires : tie.Need-read-line-requires
-read-line-requires c κs = search needs
-
-is-declaring-requires-2 : tie.Need-is-declaring-requires-2
-is-declaring-requires-2 c κs = search needs
 
 returns-2 : tie.Need-returns-2
 returns-2 c =
@@ -48,4 +36,4 @@ returns-3 c =
 
 pub declared-in-spec : {M : Type 1} → statement M
 declared-in-spec =
-    tie.close (tie.spec line-head-requires is-declaring-requires returns read-line-requires is-declaring-requires-2 returns-2 returns-3)
+    tie.close (tie.spec (search needs) (search needs) returns (search needs) (search needs) returns-2 returns-3)

@@ -30,21 +30,6 @@ loop-holds c = let s = c .before in (omega arith, omega arith, omega arith, refl
 line-at-requires : tie.Need-line-at-requires Inv-loop μ-loop
 line-at-requires c κs = omega arith
 
-sub-line-head : tie.Need-sub-line-head Inv-loop μ-loop
-sub-line-head c = search needs
-
-part-line-head-start : tie.Need-part-line-head-start Inv-loop μ-loop
-part-line-head-start c = search needs
-
-part-line-head-end : tie.Need-part-line-head-end Inv-loop μ-loop
-part-line-head-end c = search needs
-
-line-head-requires : tie.Need-line-head-requires Inv-loop μ-loop
-line-head-requires c κs = search needs
-
-is-declaring-requires : tie.Need-is-declaring-requires Inv-loop μ-loop
-is-declaring-requires c κs = search needs
-
 returns : tie.Need-returns Inv-loop μ-loop
 returns c =
     let d = c .before .before in
@@ -100,11 +85,11 @@ find-spec =
     μ-loop
     loop-holds
     line-at-requires
-    sub-line-head
-    part-line-head-start
-    part-line-head-end
-    line-head-requires
-    is-declaring-requires
+    (search needs)
+    (search needs)
+    (search needs)
+    (search needs)
+    (search needs)
     returns
     more-if-requires
     more-if-requires-2

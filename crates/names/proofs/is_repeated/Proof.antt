@@ -9,15 +9,9 @@ use borrow.Author.Needs.{needs}
 use Rattle.names.proofs.is_repeated.Statement.{statement}
 use Rattle.names.proofs.is_repeated.Tie as tie
 
-is-declaring-requires : tie.Need-is-declaring-requires
-is-declaring-requires c κs = search needs
-
 returns : tie.Need-returns
 unfolding repeatedKey
 returns c = rw (sym (c .before .is-declaring .ensures) ∙ not-true _ (c .if1 .taken))
-
-declared-as-requires : tie.Need-declared-as-requires
-declared-as-requires c κs = search needs
 
 returns-2 : tie.Need-returns-2
 returns-2 c =
@@ -26,4 +20,4 @@ returns-2 c =
     name-sought (now (s .args .before)) (s .args .kind) (s .args .name) (c .declared-as .result) (sym (d .is-declaring .ensures) ∙ not-false _ (c .before .if1 .left)) (c .declared-as .ensures)
 
 pub is-repeated-spec : {M : Type 1} → statement M
-is-repeated-spec = tie.close (tie.spec is-declaring-requires returns declared-as-requires returns-2)
+is-repeated-spec = tie.close (tie.spec (search needs) returns (search needs) returns-2)

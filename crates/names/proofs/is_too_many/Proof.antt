@@ -7,18 +7,9 @@ use borrow.Author.Needs.{needs}
 use Rattle.names.proofs.is_too_many.Statement.{statement}
 use Rattle.names.proofs.is_too_many.Tie as tie
 
-cast-result : tie.Need-cast-result
-cast-result c = search needs
-
-cast-result-2 : tie.Need-cast-result-2
-cast-result-2 c = search needs
-
-cast-result-3 : tie.Need-cast-result-3
-cast-result-3 c = search needs
-
 returns : tie.Need-returns
 unfolding tooManyBy mostCells mostLabels mostVariables
 returns c = refl
 
 pub is-too-many-spec : {M : Type 1} → statement M
-is-too-many-spec = tie.close (tie.spec cast-result cast-result-2 cast-result-3 returns)
+is-too-many-spec = tie.close (tie.spec (search needs) (search needs) (search needs) returns)

@@ -8,20 +8,8 @@ use borrow.Author.Needs.{needs}
 use Rattle.names.proofs.is_unknown_operand.Statement.{statement}
 use Rattle.names.proofs.is_unknown_operand.Tie as tie
 
-enum-told : tie.Need-enum-told
-enum-told c = search needs
-
-enum-told-2 : tie.Need-enum-told-2
-enum-told-2 c = search needs
-
-enum-known-operand : tie.Need-enum-known-operand
-enum-known-operand c = search needs
-
 cast-is-unknown-variable : tie.Need-cast-is-unknown-variable
 cast-is-unknown-variable c = omega (arith, keyed-variable _ _ (c .before .operand .given .1) (c .before .before .before .before .pre))
-
-is-unknown-variable-requires : tie.Need-is-unknown-variable-requires
-is-unknown-variable-requires c κs = search needs
 
 returns : tie.Need-returns
 unfolding unknownOperand
@@ -39,11 +27,11 @@ pub is-unknown-operand-spec : {M : Type 1} → statement M
 is-unknown-operand-spec =
     tie.close
     (tie.spec
-    enum-told
-    enum-told-2
-    enum-known-operand
+    (search needs)
+    (search needs)
+    (search needs)
     cast-is-unknown-variable
-    is-unknown-variable-requires
+    (search needs)
     returns
     returns-2
     returns-3)

@@ -7,17 +7,11 @@ use borrow.Author.Needs.{needs}
 use Rattle.names.proofs.is_unknown_variable.Statement.{statement}
 use Rattle.names.proofs.is_unknown_variable.Tie as tie
 
-number-of-requires : tie.Need-number-of-requires
-number-of-requires c κs = search needs
-
 returns : tie.Need-returns
 returns c =
     let v = c .before in
     let s = v .before .before in
     paper-known (said (now (s .args .s))) (s .args .key) (v .number-of .result) (v .number-of .ensures) (c .if1 .taken)
-
-declared-as-requires : tie.Need-declared-as-requires
-declared-as-requires c κs = search needs
 
 returns-2 : tie.Need-returns-2
 returns-2 c =
@@ -27,4 +21,4 @@ returns-2 c =
 
 pub is-unknown-variable-spec : {M : Type 1} → statement M
 is-unknown-variable-spec =
-    tie.close (tie.spec number-of-requires returns declared-as-requires returns-2)
+    tie.close (tie.spec (search needs) returns (search needs) returns-2)

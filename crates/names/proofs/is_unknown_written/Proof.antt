@@ -11,12 +11,9 @@ returns : tie.Need-returns
 unfolding unknownWritten
 returns c = rw (c .if1 .taken)
 
-is-unknown-variable-requires : tie.Need-is-unknown-variable-requires
-is-unknown-variable-requires c κs = search needs
-
 returns-2 : tie.Need-returns-2
 unfolding unknownWritten
 returns-2 c = c .is-unknown-variable .ensures ∙ rw (ne-eqb _ 0 (c .before .if1 .left))
 
 pub is-unknown-written-spec : {M : Type 1} → statement M
-is-unknown-written-spec = tie.close (tie.spec returns is-unknown-variable-requires returns-2)
+is-unknown-written-spec = tie.close (tie.spec returns (search needs) returns-2)

@@ -15,18 +15,12 @@ returns c =
     let s = c .before .before .before .before .before in
     fault-own (said (now (s .args .s))) (said (now (s .args .before))) (s .args .counts) (s .args .reading) (c .if1 .taken)
 
-is-repeated-requires : tie.Need-is-repeated-requires
-is-repeated-requires c κs = search needs
-
 returns-2 : tie.Need-returns-2
 unfolding lowest
 returns-2 c =
     let r = c .before in
     let s = r .before .before .before .before .before .before in
     fault-lowest (said (now (s .args .s))) (said (now (s .args .before))) (s .args .counts) (s .args .reading) true _ _ _ (r .before .if1 .left) (sym (r .is-repeated .ensures) ∙ c .if2 .taken) refl refl refl
-
-is-too-many-requires : tie.Need-is-too-many-requires
-is-too-many-requires c κs = search needs
 
 returns-3 : tie.Need-returns-3
 unfolding lowest
@@ -36,9 +30,6 @@ returns-3 c =
     let s = r .before .before .before .before .before .before in
     fault-lowest (said (now (s .args .s))) (said (now (s .args .before))) (s .args .counts) (s .args .reading) false true _ _ (r .before .if1 .left) (sym (r .is-repeated .ensures) ∙ m .before .if2 .left) (sym (m .is-too-many .ensures) ∙ c .if3 .taken) refl refl
 
-is-undeclared-requires : tie.Need-is-undeclared-requires
-is-undeclared-requires c κs = search needs
-
 returns-4 : tie.Need-returns-4
 unfolding lowest
 returns-4 c =
@@ -47,9 +38,6 @@ returns-4 c =
     let r = m .before .before in
     let s = r .before .before .before .before .before .before in
     fault-lowest (said (now (s .args .s))) (said (now (s .args .before))) (s .args .counts) (s .args .reading) false false true _ (r .before .if1 .left) (sym (r .is-repeated .ensures) ∙ m .before .if2 .left) (sym (m .is-too-many .ensures) ∙ u .before .if3 .left) (sym (u .is-undeclared .ensures) ∙ c .if4 .taken) refl
-
-writes-read-only-requires : tie.Need-writes-read-only-requires
-writes-read-only-requires c κs = search needs
 
 returns-5 : tie.Need-returns-5
 unfolding lowest
@@ -78,12 +66,12 @@ line-fault-spec =
     tie.close
     (tie.spec
     returns
-    is-repeated-requires
+    (search needs)
     returns-2
-    is-too-many-requires
+    (search needs)
     returns-3
-    is-undeclared-requires
+    (search needs)
     returns-4
-    writes-read-only-requires
+    (search needs)
     returns-5
     returns-6)

@@ -6,9 +6,6 @@ use borrow.Author.Needs.{needs}
 use Rattle.names.proofs.more_if.Statement.{statement}
 use Rattle.names.proofs.more_if.Tie as tie
 
-add-result : tie.Need-add-result
-add-result c = search needs
-
 returns : tie.Need-returns
 unfolding plus
 returns c = rw (c .if1 .taken) (add-one _)
@@ -18,4 +15,4 @@ unfolding plus
 returns-2 c = rw (c .if1 .left)
 
 pub more-if-spec : {M : Type 1} → statement M
-more-if-spec = tie.close (tie.spec add-result returns returns-2)
+more-if-spec = tie.close (tie.spec (search needs) returns returns-2)

@@ -24,18 +24,6 @@ loop-holds c = passed-first (now (c .before .args .s))
 line-at-requires : tie.Need-line-at-requires Inv-loop μ-loop
 line-at-requires c κs = omega arith
 
-sub-read-line : tie.Need-sub-read-line Inv-loop μ-loop
-sub-read-line c = search needs
-
-part-read-line-start : tie.Need-part-read-line-start Inv-loop μ-loop
-part-read-line-start c = search needs
-
-part-read-line-end : tie.Need-part-read-line-end Inv-loop μ-loop
-part-read-line-end c = search needs
-
-read-line-requires : tie.Need-read-line-requires Inv-loop μ-loop
-read-line-requires c κs = search needs
-
 slice-aggregate-before : tie.Need-slice-aggregate-before Inv-loop μ-loop
 slice-aggregate-before c =
     let h = c .before .before .before .before .before in
@@ -86,10 +74,10 @@ survey-lines-spec =
     μ-loop
     loop-holds
     line-at-requires
-    sub-read-line
-    part-read-line-start
-    part-read-line-end
-    read-line-requires
+    (search needs)
+    (search needs)
+    (search needs)
+    (search needs)
     slice-aggregate-before
     line-fault-requires
     returns

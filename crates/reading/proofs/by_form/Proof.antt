@@ -42,9 +42,6 @@ loop-again c =
     let h = f .before .before in
     (omega arith, form-not (h .before .args .ts) (h .loop .form) (f .before .loop-test .taken) (f .fill .ensures) (c .if1 .left) ∙ h .loop .inv .1)
 
-faulty-requires : tie.Need-faulty-requires Inv-loop μ-loop
-faulty-requires c κs = search needs
-
 returns-2 : tie.Need-returns-2 Inv-loop μ-loop
 returns-2 c = let h = c .before .before in c .faulty .ensures ∙ form-none (h .before .args .ts) (h .loop .form) (c .before .loop-test .left) ∙ h .loop .inv .1
 
@@ -61,5 +58,5 @@ by-form-spec =
     add-form
     loop-less
     loop-again
-    faulty-requires
+    (search needs)
     returns-2)

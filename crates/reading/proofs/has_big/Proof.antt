@@ -6,18 +6,9 @@ use Rattle.reading.proofs.Values.{big-start}
 use Rattle.reading.proofs.has_big.Statement.{statement}
 use Rattle.reading.proofs.has_big.Tie as tie
 
-is-big-requires : tie.Need-is-big-requires
-is-big-requires c κs = search needs
-
-is-big-requires-2 : tie.Need-is-big-requires-2
-is-big-requires-2 c κs = search needs
-
-is-big-requires-3 : tie.Need-is-big-requires-3
-is-big-requires-3 c κs = search needs
-
 returns : tie.Need-returns
 unfolding anyBig
 returns c = rw (c .before .before .is-big .ensures, c .before .is-big2 .ensures, c .is-big3 .ensures, big-start (c .before .before .before .args .parts .start))
 
 pub has-big-spec : {M : Type 1} → statement M
-has-big-spec = tie.close (tie.spec is-big-requires is-big-requires-2 is-big-requires-3 returns)
+has-big-spec = tie.close (tie.spec (search needs) (search needs) (search needs) returns)

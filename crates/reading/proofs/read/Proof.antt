@@ -10,26 +10,11 @@ use Rattle.forms.specs.Code.{partsOf}
 use Rattle.reading.proofs.read.Statement.{statement}
 use Rattle.reading.proofs.read.Tie as tie
 
-say-at-requires : tie.Need-say-at-requires
-say-at-requires c κs = search needs
-
-has-big-requires : tie.Need-has-big-requires
-has-big-requires c κs = search needs
-
-faulty-requires : tie.Need-faulty-requires
-faulty-requires c κs = search needs
-
 returns : tie.Need-returns
 returns c =
     let b = c .before .before in
     let a = b .before .before .args in
     c .faulty .ensures ∙ read-big (a .form) (partsOf (a .parts)) (sym (b .has-big .ensures) ∙ c .before .if1 .taken)
-
-is-reserved-requires : tie.Need-is-reserved-requires
-is-reserved-requires c κs = search needs
-
-faulty-requires-2 : tie.Need-faulty-requires-2
-faulty-requires-2 c κs = search needs
 
 returns-2 : tie.Need-returns-2
 returns-2 c =
@@ -40,15 +25,6 @@ returns-2 c =
     c .faulty2 .ensures
     ∙ read-reserved (a .form) (partsOf (a .parts)) (sym (b .has-big .ensures) ∙ r .before .if1 .left)
     (sym (ap₂ (λ (n : ℕ) (x : Bool). not (eqb n 3) && x) (k .say-at .ensures) (r .is-reserved .ensures ∙ reserved-spelt (a .parts .name))) ∙ c .before .if2 .taken)
-
-say-at-requires-2 : tie.Need-say-at-requires-2
-say-at-requires-2 c κs = search needs
-
-say-at-requires-3 : tie.Need-say-at-requires-3
-say-at-requires-3 c κs = search needs
-
-say-requires : tie.Need-say-requires
-say-requires c κs = search needs
 
 returns-3 : tie.Need-returns-3
 returns-3 c =
@@ -66,14 +42,14 @@ pub read-spec : {M : Type 1} → statement M
 read-spec =
     tie.close
     (tie.spec
-    say-at-requires
-    has-big-requires
-    faulty-requires
+    (search needs)
+    (search needs)
+    (search needs)
     returns
-    is-reserved-requires
-    faulty-requires-2
+    (search needs)
+    (search needs)
     returns-2
-    say-at-requires-2
-    say-at-requires-3
-    say-requires
+    (search needs)
+    (search needs)
+    (search needs)
     returns-3)

@@ -9,23 +9,11 @@ use Rattle.reading.proofs.Readings.{line-long, line-bad, line-says, cod
 use Rattle.reading.proofs.read_line.Statement.{statement}
 use Rattle.reading.proofs.read_line.Tie as tie
 
-is-long-requires : tie.Need-is-long-requires
-is-long-requires c κs = search needs
-
-faulty-requires : tie.Need-faulty-requires
-faulty-requires c κs = search needs
-
 returns : tie.Need-returns
 returns c =
     let k = c .before .before in
     let l = now (k .before .before .args .l) in
     c .faulty .ensures ∙ line-long l (sym (k .is-long .ensures) ∙ c .before .if1 .taken) ∙ line-reads l
-
-is-printable-requires : tie.Need-is-printable-requires
-is-printable-requires c κs = search needs
-
-faulty-requires-2 : tie.Need-faulty-requires-2
-faulty-requires-2 c κs = search needs
 
 returns-2 : tie.Need-returns-2
 returns-2 c =
@@ -36,20 +24,11 @@ returns-2 c =
     ∙ line-bad l (sym (k .is-long .ensures) ∙ p .before .if1 .left) (sym (p .is-printable .ensures) ∙ not-true _ (c .before .if2 .taken))
     ∙ line-reads l
 
-code-length-requires : tie.Need-code-length-requires
-code-length-requires c κs = search needs
-
 slice-aggregate-code : tie.Need-slice-aggregate-code
 slice-aggregate-code c =
     let n = c .before in
     let l = now (n .before .before .before .before .before .before .args .l) in
     sym (length-take-le (n .code-length .result) l (code-inside l (n .code-length .ensures)))
-
-read-tokens-requires : tie.Need-read-tokens-requires
-read-tokens-requires c κs = search needs
-
-statement-requires : tie.Need-statement-requires
-statement-requires c κs = search needs
 
 returns-3 : tie.Need-returns-3
 returns-3 c =
@@ -66,14 +45,14 @@ pub read-line-spec : {M : Type 1} → statement M
 read-line-spec =
     tie.close
     (tie.spec
-    is-long-requires
-    faulty-requires
+    (search needs)
+    (search needs)
     returns
-    is-printable-requires
-    faulty-requires-2
+    (search needs)
+    (search needs)
     returns-2
-    code-length-requires
+    (search needs)
     slice-aggregate-code
-    read-tokens-requires
-    statement-requires
+    (search needs)
+    (search needs)
     returns-3)

@@ -6,22 +6,13 @@ use Rattle.reading.specs.Code.{statementBy}
 use Rattle.reading.proofs.statement.Statement.{statement}
 use Rattle.reading.proofs.statement.Tie as tie
 
-faulty-requires : tie.Need-faulty-requires
-faulty-requires c κs = search needs
-
 returns : tie.Need-returns
 unfolding statementBy
 returns c = rw (c .faulty .ensures) (search tests)
 
-faulty-requires-2 : tie.Need-faulty-requires-2
-faulty-requires-2 c κs = search needs
-
 returns-2 : tie.Need-returns-2
 unfolding statementBy
 returns-2 c = rw (c .faulty2 .ensures) (search tests)
-
-by-form-requires : tie.Need-by-form-requires
-by-form-requires c κs = search needs
 
 returns-3 : tie.Need-returns-3
 unfolding statementBy
@@ -30,4 +21,4 @@ returns-3 c = rw (c .by-form .ensures) (search tests)
 pub statement-spec : {M : Type 1} → statement M
 statement-spec =
     tie.close
-    (tie.spec faulty-requires returns faulty-requires-2 returns-2 by-form-requires returns-3)
+    (tie.spec (search needs) returns (search needs) returns-2 (search needs) returns-3)

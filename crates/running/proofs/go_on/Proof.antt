@@ -19,9 +19,6 @@ abbrev μ-loop : tie.MeasureT-loop
 μ-loop image events turn first last records₀ cells machine₀ turns₀ event₀ bytes₀ records machine turns event bytes =
     last - turns
 
-cell-count-requires : tie.Need-cell-count-requires Inv-loop μ-loop
-cell-count-requires c κs = search needs
-
 loop-holds : tie.Need-loop-holds Inv-loop μ-loop
 loop-holds c = let p = c .before .before .before .before .pre in underway _ _ (p .2) (p .3)
 
@@ -29,9 +26,6 @@ later-requires : tie.Need-later-requires Inv-loop μ-loop
 later-requires c κs =
     let l = c .before .before .before in
     (few-events _ (l .before .before .before .before .before .pre .0), l .loop .inv .within)
-
-cell-at-requires : tie.Need-cell-at-requires Inv-loop μ-loop
-cell-at-requires c κs = search needs
 
 turn-requires : tie.Need-turn-requires Inv-loop μ-loop
 turn-requires c κs =
@@ -98,10 +92,10 @@ go-on-spec =
     (tie.spec
     Inv-loop
     μ-loop
-    cell-count-requires
+    (search needs)
     loop-holds
     later-requires
-    cell-at-requires
+    (search needs)
     turn-requires
     write-record-requires
     add-turns

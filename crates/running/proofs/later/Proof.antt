@@ -18,14 +18,8 @@ Inv-loop events turn first count k₀ k =
 abbrev μ-loop : tie.MeasureT-loop
 μ-loop events turn first count k₀ k = count - k
 
-event-count-requires : tie.Need-event-count-requires Inv-loop μ-loop
-event-count-requires c κs = search needs
-
 loop-holds : tie.Need-loop-holds Inv-loop μ-loop
 loop-holds c = let p = c .before .before .pre in (omega (arith, c .event-count .ensures, p .1), omega arith, λ j l o. absurd (omega arith))
-
-whole-event-requires : tie.Need-whole-event-requires Inv-loop μ-loop
-whole-event-requires c κs = search needs
 
 returns : tie.Need-returns Inv-loop μ-loop
 returns c =
@@ -59,9 +53,9 @@ later-spec =
     (tie.spec
     Inv-loop
     μ-loop
-    event-count-requires
+    (search needs)
     loop-holds
-    whole-event-requires
+    (search needs)
     returns
     add-k
     loop-less

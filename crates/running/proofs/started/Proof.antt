@@ -18,20 +18,8 @@ Inv-loop image count machine₀ k₀ machine k = (k ≤ count) × (machine ≡ s
 abbrev μ-loop : tie.MeasureT-loop
 μ-loop image count machine₀ k₀ machine k = count - k
 
-variable-count-requires : tie.Need-variable-count-requires Inv-loop μ-loop
-variable-count-requires c κs = search needs
-
-fresh-requires : tie.Need-fresh-requires Inv-loop μ-loop
-fresh-requires c κs = search needs
-
 loop-holds : tie.Need-loop-holds Inv-loop μ-loop
 loop-holds c = (omega arith, c .fresh .ensures)
-
-start-value-requires : tie.Need-start-value-requires Inv-loop μ-loop
-start-value-requires c κs = search needs
-
-with-start-requires : tie.Need-with-start-requires Inv-loop μ-loop
-with-start-requires c κs = search needs
 
 add-k : tie.Need-add-k Inv-loop μ-loop
 add-k c = omega arith
@@ -59,11 +47,11 @@ started-spec =
     (tie.spec
     Inv-loop
     μ-loop
-    variable-count-requires
-    fresh-requires
+    (search needs)
+    (search needs)
     loop-holds
-    start-value-requires
-    with-start-requires
+    (search needs)
+    (search needs)
     add-k
     loop-less
     loop-again

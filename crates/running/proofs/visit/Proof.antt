@@ -18,17 +18,8 @@ Inv-loop image events budget visits₀ cells machine₀ taken₀ event₀ visits
 abbrev μ-loop : tie.MeasureT-loop
 μ-loop image events budget visits₀ cells machine₀ taken₀ event₀ visits machine taken event = budget - taken
 
-cell-count-requires : tie.Need-cell-count-requires Inv-loop μ-loop
-cell-count-requires c κs = search needs
-
-started-requires : tie.Need-started-requires Inv-loop μ-loop
-started-requires c κs = search needs
-
 loop-holds : tie.Need-loop-holds Inv-loop μ-loop
 loop-holds c = passing (c .started .ensures)
-
-cast-result : tie.Need-cast-result Inv-loop μ-loop
-cast-result c = search needs
 
 same-length : tie.Need-same-length Inv-loop μ-loop
 same-length c = c .before .before .before .loop .inv .size
@@ -36,25 +27,10 @@ same-length c = c .before .before .before .loop .inv .size
 returns : tie.Need-returns Inv-loop μ-loop
 returns c = let at = c .before .before .before in visited-past (at .loop .inv) (at .before .before .cell-count .ensures) (c .if1 .taken)
 
-cast-at : tie.Need-cast-at Inv-loop μ-loop
-cast-at c = search needs
-
-mul-at : tie.Need-mul-at Inv-loop μ-loop
-mul-at c = search needs
-
-cast-write : tie.Need-cast-write Inv-loop μ-loop
-cast-write c = search needs
-
-write-requires : tie.Need-write-requires Inv-loop μ-loop
-write-requires c κs = search needs
-
 later-requires : tie.Need-later-requires Inv-loop μ-loop
 later-requires c κs =
     let l = c .before .before .before .before .before .before .before .before in
     (few-events _ (l .before .before .before .before .before .before .pre .0), l .loop .inv .within)
-
-cell-at-requires : tie.Need-cell-at-requires Inv-loop μ-loop
-cell-at-requires c κs = search needs
 
 turn-requires : tie.Need-turn-requires Inv-loop μ-loop
 turn-requires c κs =
@@ -99,9 +75,6 @@ loop-again c =
     passes-on (l .loop .inv) (l .before .before .cell-count .ensures) (l .before .before .before .before .before .before .pre .2) (c .before .before .before .before .before .before .before .before .before .before .if1 .left) (c .before .before .before .before .before .before .before .before .before .before .before .before .loop-test .taken)
     (stepped (c .before .before)) (c .before .before .before .before .before .before .before .write .ensures) (c .if2 .left)
 
-cast-result-3 : tie.Need-cast-result-3 Inv-loop μ-loop
-cast-result-3 c = search needs
-
 same-length-3 : tie.Need-same-length-3 Inv-loop μ-loop
 same-length-3 c = c .before .loop .inv .size
 
@@ -114,18 +87,18 @@ visit-spec =
     (tie.spec
     Inv-loop
     μ-loop
-    cell-count-requires
-    started-requires
+    (search needs)
+    (search needs)
     loop-holds
-    cast-result
+    (search needs)
     same-length
     returns
-    cast-at
-    mul-at
-    cast-write
-    write-requires
+    (search needs)
+    (search needs)
+    (search needs)
+    (search needs)
     later-requires
-    cell-at-requires
+    (search needs)
     turn-requires
     add-taken
     cast-result-2
@@ -133,6 +106,6 @@ visit-spec =
     returns-2
     loop-less
     loop-again
-    cast-result-3
+    (search needs)
     same-length-3
     returns-3)

@@ -6,14 +6,8 @@ use lib.ListN.{List·getD-eq-default}
 use Rattle.text.proofs.byte.Statement.{statement}
 use Rattle.text.proofs.byte.Tie as tie
 
-shared-slice-read-result : tie.Need-shared-slice-read-result
-shared-slice-read-result c = search needs
-
-returns : tie.Need-returns
-returns c = search needs
-
 returns-2 : tie.Need-returns-2
 returns-2 c = rw (List·getD-eq-default (now (c .before .args .s)) 0 (c .if1 .left))
 
 pub byte-spec : {M : Type 1} → statement M
-byte-spec = tie.close (tie.spec shared-slice-read-result returns returns-2)
+byte-spec = tie.close (tie.spec (search needs) (search needs) returns-2)

@@ -7,9 +7,6 @@ use Rattle.text.proofs.Lines.{end-le, line-at}
 use Rattle.text.proofs.line_at.Statement.{statement}
 use Rattle.text.proofs.line_at.Tie as tie
 
-line-end-requires : tie.Need-line-end-requires
-line-end-requires c κs = search needs
-
 line-next-requires : tie.Need-line-next-requires
 line-next-requires c κs =
     let s = c .before .before in
@@ -21,4 +18,4 @@ returns c =
     line-at (now (s .args .s)) (s .args .at) (c .before .line-end .result) (c .line-next .result) (s .pre) (c .before .line-end .ensures) (c .line-next .ensures)
 
 pub line-at-spec : {M : Type 1} → statement M
-line-at-spec = tie.close (tie.spec line-end-requires line-next-requires returns)
+line-at-spec = tie.close (tie.spec (search needs) line-next-requires returns)

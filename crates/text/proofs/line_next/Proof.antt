@@ -12,20 +12,11 @@ use Rattle.text.proofs.line_next.Tie as tie
 returns : tie.Need-returns
 returns c = let a = c .before .args in simp (ending-none (now (a .s)) (a .end) (c .if1 .taken), add-zero)
 
-shared-slice-read-if2 : tie.Need-shared-slice-read-if2
-shared-slice-read-if2 c = search needs
-
-add-result : tie.Need-add-result
-add-result c = search needs
-
 returns-2 : tie.Need-returns-2
 returns-2 c =
     let k = c .before .before in
     let a = k .before .args in
     simp (ending (now (a .s)) (a .end) true (k .if1 .left) (eq-eqb _ _ (c .if2 .taken)))
-
-add-result-2 : tie.Need-add-result-2
-add-result-2 c = search needs
 
 returns-3 : tie.Need-returns-3
 returns-3 c =
@@ -35,4 +26,4 @@ returns-3 c =
 
 pub line-next-spec : {M : Type 1} → statement M
 line-next-spec =
-    tie.close (tie.spec returns shared-slice-read-if2 add-result returns-2 add-result-2 returns-3)
+    tie.close (tie.spec returns (search needs) (search needs) returns-2 (search needs) returns-3)

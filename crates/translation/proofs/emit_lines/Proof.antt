@@ -24,18 +24,6 @@ loop-holds c =
 line-at-requires : tie.Need-line-at-requires Inv-loop μ-loop
 line-at-requires c κs = omega arith
 
-sub-read-line : tie.Need-sub-read-line Inv-loop μ-loop
-sub-read-line c = search needs
-
-part-read-line-start : tie.Need-part-read-line-start Inv-loop μ-loop
-part-read-line-start c = search needs
-
-part-read-line-end : tie.Need-part-read-line-end Inv-loop μ-loop
-part-read-line-end c = search needs
-
-read-line-requires : tie.Need-read-line-requires Inv-loop μ-loop
-read-line-requires c κs = search needs
-
 emit-line-requires : tie.Need-emit-line-requires Inv-loop μ-loop
 emit-line-requires c κs =
     let q = c .before in
@@ -78,10 +66,10 @@ emit-lines-spec =
     μ-loop
     loop-holds
     line-at-requires
-    sub-read-line
-    part-read-line-start
-    part-read-line-end
-    read-line-requires
+    (search needs)
+    (search needs)
+    (search needs)
+    (search needs)
     emit-line-requires
     loop-less
     loop-again

@@ -10,9 +10,6 @@ returns : tie.Need-returns
 unfolding fewer
 returns c = rw (c .before .if1 .taken) (omega arith)
 
-sub-result : tie.Need-sub-result
-sub-result c = search needs
-
 returns-2 : tie.Need-returns-2
 unfolding fewer
 returns-2 c = rw (c .before .if1 .taken)
@@ -22,4 +19,4 @@ unfolding fewer
 returns-3 c = rw (c .if1 .left)
 
 pub fewer-if-spec : {M : Type 1} → statement M
-fewer-if-spec = tie.close (tie.spec returns sub-result returns-2 returns-3)
+fewer-if-spec = tie.close (tie.spec returns (search needs) returns-2 returns-3)

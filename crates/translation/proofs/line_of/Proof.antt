@@ -21,27 +21,12 @@ loop-holds c = sought-first (now (c .before .args .s)) (c .before .args .place)
 line-at-requires : tie.Need-line-at-requires Inv-loop μ-loop
 line-at-requires c κs = omega arith
 
-sub-read-line : tie.Need-sub-read-line Inv-loop μ-loop
-sub-read-line c = search needs
-
-part-read-line-start : tie.Need-part-read-line-start Inv-loop μ-loop
-part-read-line-start c = search needs
-
-part-read-line-end : tie.Need-part-read-line-end Inv-loop μ-loop
-part-read-line-end c = search needs
-
-read-line-requires : tie.Need-read-line-requires Inv-loop μ-loop
-read-line-requires c κs = search needs
-
 returns : tie.Need-returns Inv-loop μ-loop
 returns c =
     let q = c .before in
     let l = q .before .before in
     let h = l .before .before in
     placed-here (h .loop .inv) (l .line-at .ensures) (q .read-line .ensures) (c .if1 .taken)
-
-fewer-if-requires : tie.Need-fewer-if-requires Inv-loop μ-loop
-fewer-if-requires c κs = search needs
 
 add-line : tie.Need-add-line Inv-loop μ-loop
 add-line c = omega arith
@@ -67,12 +52,12 @@ line-of-spec =
     μ-loop
     loop-holds
     line-at-requires
-    sub-read-line
-    part-read-line-start
-    part-read-line-end
-    read-line-requires
+    (search needs)
+    (search needs)
+    (search needs)
+    (search needs)
     returns
-    fewer-if-requires
+    (search needs)
     add-line
     loop-less
     loop-again

@@ -10,9 +10,6 @@ use borrow.Author.Needs.{needs}
 use Rattle.translation.proofs.number_of.Statement.{statement}
 use Rattle.translation.proofs.number_of.Tie as tie
 
-number-of-requires : tie.Need-number-of-requires
-number-of-requires c κs = search needs
-
 cast-result : tie.Need-cast-result
 cast-result c =
     let v = c .before in
@@ -23,18 +20,6 @@ returns c =
     let v = c .before in
     let s = v .before .before in
     number-paper (said (now (s .args .s))) (s .args .key) (v .number-of .result) (v .number-of .ensures) (c .if1 .taken)
-
-find-requires : tie.Need-find-requires
-find-requires c κs = search needs
-
-cast-result-2 : tie.Need-cast-result-2
-cast-result-2 c = search needs
-
-cast-result-3 : tie.Need-cast-result-3
-cast-result-3 c = search needs
-
-add-result : tie.Need-add-result
-add-result c = search needs
 
 returns-2 : tie.Need-returns-2
 returns-2 c =
@@ -47,11 +32,11 @@ pub number-of-spec : {M : Type 1} → statement M
 number-of-spec =
     tie.close
     (tie.spec
-    number-of-requires
+    (search needs)
     cast-result
     returns
-    find-requires
-    cast-result-2
-    cast-result-3
-    add-result
+    (search needs)
+    (search needs)
+    (search needs)
+    (search needs)
     returns-2)

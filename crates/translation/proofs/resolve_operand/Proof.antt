@@ -8,26 +8,8 @@ use borrow.Author.Needs.{needs}
 use Rattle.translation.proofs.resolve_operand.Statement.{statement}
 use Rattle.translation.proofs.resolve_operand.Tie as tie
 
-enum-told : tie.Need-enum-told
-enum-told c = search needs
-
-enum-known-operand : tie.Need-enum-known-operand
-enum-known-operand c = search needs
-
-enum-known-operand-2 : tie.Need-enum-known-operand-2
-enum-known-operand-2 c = search needs
-
 cast-number-of : tie.Need-cast-number-of
 cast-number-of c = omega (arith, keyed-variable _ _ (c .before .operand2 .given .1) (c .before .before .before .before .pre .1))
-
-number-of-requires : tie.Need-number-of-requires
-number-of-requires c κs = search needs
-
-cast-t8 : tie.Need-cast-t8
-cast-t8 c = search needs
-
-returns : tie.Need-returns
-returns c = search needs
 
 returns-2 : tie.Need-returns-2
 returns-2 c = rw (c .before .operand .given .1) (ap O.Literal (search needs))
@@ -39,12 +21,12 @@ pub resolve-operand-spec : {M : Type 1} → statement M
 resolve-operand-spec =
     tie.close
     (tie.spec
-    enum-told
-    enum-known-operand
-    enum-known-operand-2
+    (search needs)
+    (search needs)
+    (search needs)
     cast-number-of
-    number-of-requires
-    cast-t8
-    returns
+    (search needs)
+    (search needs)
+    (search needs)
     returns-2
     returns-3)

@@ -11,11 +11,8 @@ use Rattle.translation.proofs.resolve_target.Tie as tie
 returns : tie.Need-returns
 returns c = let s = c .before .before in target-none (placeOf (said (now (s .args .s)))) (s .args .target) (c .if1 .taken)
 
-place-of-requires : tie.Need-place-of-requires
-place-of-requires c κs = search needs
-
 returns-2 : tie.Need-returns-2
 returns-2 c = let s = c .before .before .before in c .place-of .ensures ∙ target-placed (placeOf (said (now (s .args .s)))) (s .args .target) (c .before .if1 .left)
 
 pub resolve-target-spec : {M : Type 1} → statement M
-resolve-target-spec = tie.close (tie.spec returns place-of-requires returns-2)
+resolve-target-spec = tie.close (tie.spec returns (search needs) returns-2)

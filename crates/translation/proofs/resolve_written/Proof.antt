@@ -8,11 +8,8 @@ use Rattle.translation.proofs.resolve_written.Tie as tie
 returns : tie.Need-returns
 returns c = rw (c .if1 .taken)
 
-number-of-requires : tie.Need-number-of-requires
-number-of-requires c κs = search needs
-
 returns-2 : tie.Need-returns-2
 returns-2 c = rw (ne-eqb _ 0 (c .before .if1 .left)) (c .number-of .ensures)
 
 pub resolve-written-spec : {M : Type 1} → statement M
-resolve-written-spec = tie.close (tie.spec returns number-of-requires returns-2)
+resolve-written-spec = tie.close (tie.spec returns (search needs) returns-2)

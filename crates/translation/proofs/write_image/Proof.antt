@@ -22,12 +22,6 @@ cast-variables c =
     let s = c .before .before .before .before .before in
     omega (arith, few (now (s .args .s)) (s .args .counts) (s .pre .1 .1 .0) (s .pre .1 .0) .2)
 
-label-place-requires : tie.Need-label-place-requires
-label-place-requires c κs = search needs
-
-variable-place-requires : tie.Need-variable-place-requires
-variable-place-requires c κs = search needs
-
 emit-lines-requires : tie.Need-emit-lines-requires
 emit-lines-requires c κs =
     let v = c .before in
@@ -36,15 +30,6 @@ emit-lines-requires c κs =
       record { short = s .pre .0; clear = s .pre .1 .0 },
       places-near (now (s .args .s)) (s .args .counts) (s .pre .1 .1 .0) (l .label-place .result) (v .variable-place .result) (s .pre .1 .0) (l .label-place .ensures) (v .variable-place .ensures),
     )
-
-variable-place-requires-2 : tie.Need-variable-place-requires-2
-variable-place-requires-2 c κs = search needs
-
-write-trailer-requires : tie.Need-write-trailer-requires
-write-trailer-requires c κs = search needs
-
-same-length : tie.Need-same-length
-same-length c = search needs
 
 returns : tie.Need-returns
 returns c =
@@ -64,10 +49,10 @@ write-image-spec =
     cast-cells
     cast-labels
     cast-variables
-    label-place-requires
-    variable-place-requires
+    (search needs)
+    (search needs)
     emit-lines-requires
-    variable-place-requires-2
-    write-trailer-requires
-    same-length
+    (search needs)
+    (search needs)
+    (search needs)
     returns)

@@ -13,17 +13,11 @@ use Rattle.tried.proofs.is_refused.Tie as tie
 whole : (c : tie.Else1) → badScript (c .before .before .before .args .events .now) ≡ false
 whole c = sym (c .before .is-bad-script .ensures) ∙ c .if1 .left
 
-is-bad-script-requires : tie.Need-is-bad-script-requires
-is-bad-script-requires c κs = search needs
-
 returns : tie.Need-returns
 returns c = by-script _ _ _ (sym (c .before .is-bad-script .ensures) ∙ c .if1 .taken)
 
 first-bad-event-requires : tie.Need-first-bad-event-requires
 first-bad-event-requires c κs = few-events _ (whole c)
-
-event-count-requires : tie.Need-event-count-requires
-event-count-requires c κs = search needs
 
 returns-2 : tie.Need-returns-2
 returns-2 c = let e = c .before in by-event _ _ _ (whole (e .before .before)) (e .before .first-bad-event .ensures) (e .event-count .ensures) (c .if2 .taken)
@@ -32,9 +26,6 @@ returns-3 : tie.Need-returns-3
 returns-3 c =
     let e = c .before .before in
     by-budget _ _ _ (whole (e .before .before)) (e .before .first-bad-event .ensures) (e .event-count .ensures) (c .before .if2 .left) (c .if3 .taken)
-
-mul-result : tie.Need-mul-result
-mul-result c = search needs
 
 returns-4 : tie.Need-returns-4
 returns-4 c =
@@ -45,11 +36,11 @@ pub is-refused-spec : {M : Type 1} → statement M
 is-refused-spec =
     tie.close
     (tie.spec
-    is-bad-script-requires
+    (search needs)
     returns
     first-bad-event-requires
-    event-count-requires
+    (search needs)
     returns-2
     returns-3
-    mul-result
+    (search needs)
     returns-4)

@@ -10,23 +10,11 @@ use Rattle.tried.proofs.try_text.Lts as lts
 use Rattle.bench.proofs.run.Reads as run-reads
 use Rattle.bench.proofs.translate.Reads as translate-reads
 
-translate-requires : tie.Need-translate-requires
-translate-requires c κs = search needs
-
 slice-reshare-prefix-run : tie.Need-slice-reshare-prefix-run
 slice-reshare-prefix-run c = prefix _ _ (c .before .before .translate .ensures)
 
 slice-aggregate-run : tie.Need-slice-aggregate-run
 slice-aggregate-run c = sym (length-take-le _ _ (prefix _ _ (c .before .before .before .translate .ensures)))
-
-run-requires : tie.Need-run-requires
-run-requires c κs = search needs
-
-same-length : tie.Need-same-length
-same-length c = search needs
-
-same-length-2 : tie.Need-same-length-2
-same-length-2 c = search needs
 
 returns : tie.Need-returns
 returns c = tries _ _ (c .before .before .before .before .before .before .before .translate .ensures) _ _ _ refl (c .before .before .run .ensures)
@@ -35,10 +23,10 @@ pub try-text-spec : {M : Type 1} → statement M
 try-text-spec =
     tie.close
     (tie.spec
-    translate-requires
+    (search needs)
     slice-reshare-prefix-run
     slice-aggregate-run
-    run-requires
-    same-length
-    same-length-2
+    (search needs)
+    (search needs)
+    (search needs)
     returns)

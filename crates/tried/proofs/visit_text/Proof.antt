@@ -14,20 +14,8 @@ use Rattle.tried.proofs.visit_text.Tie as tie
 nothing : (c : tie.Else2) → let st = c .before .before .before .before .before .before .before .before .before .before .before .before in Fit (st .args .events .now) (st .args .budget) (length (st .args .visits .now))
 nothing c = fit (sym (c .before .is-refused .ensures) ∙ c .if2 .left)
 
-translate-requires : tie.Need-translate-requires
-translate-requires c κs = search needs
-
-same-length : tie.Need-same-length
-same-length c = search needs
-
 returns : tie.Need-returns
 returns c = text-refused _ _ (c .before .before .before .before .translate .ensures) _ _ _ (c .if1 .taken)
-
-is-refused-requires : tie.Need-is-refused-requires
-is-refused-requires c κs = search needs
-
-same-length-2 : tie.Need-same-length-2
-same-length-2 c = search needs
 
 returns-2 : tie.Need-returns-2
 returns-2 c =
@@ -46,12 +34,6 @@ cast-visit c = let f = nothing (c .before) in record { fits = omega (arith, f .l
 visit-requires : tie.Need-visit-requires
 visit-requires c κs = let f = nothing (c .before .before) in (f .whole-script, f .good-events, f .room)
 
-same-length-3 : tie.Need-same-length-3
-same-length-3 c = search needs
-
-same-length-4 : tie.Need-same-length-4
-same-length-4 c = search needs
-
 returns-3 : tie.Need-returns-3
 returns-3 c =
     let v = c .before .before in
@@ -63,16 +45,16 @@ pub visit-text-spec : {M : Type 1} → statement M
 visit-text-spec =
     tie.close
     (tie.spec
-    translate-requires
-    same-length
+    (search needs)
+    (search needs)
     returns
-    is-refused-requires
-    same-length-2
+    (search needs)
+    (search needs)
     returns-2
     slice-reshare-prefix-visit
     slice-aggregate-visit
     cast-visit
     visit-requires
-    same-length-3
-    same-length-4
+    (search needs)
+    (search needs)
     returns-3)

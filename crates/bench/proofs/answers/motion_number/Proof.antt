@@ -6,15 +6,6 @@ use Rattle.bench.proofs.answers.motion_number.Tie as tie
 use Rattle.bench.proofs.answers.motion_number.Reads as reads
 use Rattle.bench.proofs.answers.motion_number.Lts as lts
 
-enum-told : tie.Need-enum-told
-enum-told c = search needs
-
-enum-told-2 : tie.Need-enum-told-2
-enum-told-2 c = search needs
-
-enum-told-3 : tie.Need-enum-told-3
-enum-told-3 c = search needs
-
 returns : tie.Need-returns
 unfolding motionNumber
 returns c = rw (c .enum-told .given .1)
@@ -29,4 +20,4 @@ returns-3 c = rw (c .enum-told3 .given .1)
 
 pub motion-number-spec : {M : Type 1} → statement M
 motion-number-spec =
-    tie.close (tie.spec enum-told enum-told-2 enum-told-3 returns returns-2 returns-3)
+    tie.close (tie.spec (search needs) (search needs) (search needs) returns returns-2 returns-3)

@@ -9,15 +9,6 @@ use Rattle.bench.proofs.answers.motion_value.Tie as tie
 use Rattle.bench.proofs.answers.motion_value.Reads as reads
 use Rattle.bench.proofs.answers.motion_value.Lts as lts
 
-enum-told : tie.Need-enum-told
-enum-told c = search needs
-
-enum-known-motion : tie.Need-enum-known-motion
-enum-known-motion c = search needs
-
-enum-known-motion-2 : tie.Need-enum-known-motion-2
-enum-known-motion-2 c = search needs
-
 returns : tie.Need-returns
 unfolding motionValue
 returns c = rw (c .enum-told .given .1)
@@ -37,4 +28,4 @@ returns-3 c =
 pub motion-value-spec : {M : Type 1} → statement M
 motion-value-spec =
     tie.close
-    (tie.spec enum-told enum-known-motion enum-known-motion-2 returns returns-2 returns-3)
+    (tie.spec (search needs) (search needs) (search needs) returns returns-2 returns-3)

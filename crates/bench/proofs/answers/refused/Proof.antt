@@ -7,12 +7,9 @@ use Rattle.bench.proofs.answers.refused.Reads as reads
 use Rattle.bench.proofs.answers.refused.Lts as lts
 use Rattle.bench.proofs.answers.no_state.Reads as no-state-reads
 
-no-state-requires : tie.Need-no-state-requires
-no-state-requires c κs = search needs
-
 returns : tie.Need-returns
 unfolding refusedAs
 returns c = rw (c .no-state .ensures)
 
 pub refused-spec : {M : Type 1} → statement M
-refused-spec = tie.close (tie.spec no-state-requires returns)
+refused-spec = tie.close (tie.spec (search needs) returns)

@@ -9,16 +9,10 @@ use Rattle.bench.proofs.answers.state_of.Lts as lts
 use Rattle.bench.proofs.answers.motion_number.Reads as motion-number-reads
 use Rattle.bench.proofs.answers.motion_value.Reads as motion-value-reads
 
-motion-number-requires : tie.Need-motion-number-requires
-motion-number-requires c κs = search needs
-
-motion-value-requires : tie.Need-motion-value-requires
-motion-value-requires c κs = search needs
-
 returns : tie.Need-returns
 unfolding stateOf
 returns c =
     rw (back32 (fit32 (c .motion-value .result) (c .motion-value .ok)), c .motion-value .ensures, c .before .motion-number .ensures)
 
 pub state-of-spec : {M : Type 1} → statement M
-state-of-spec = tie.close (tie.spec motion-number-requires motion-value-requires returns)
+state-of-spec = tie.close (tie.spec (search needs) (search needs) returns)

@@ -12,15 +12,6 @@ returns : tie.Need-returns
 unfolding holds conditionOf
 returns c = simp (eq-eqb _ _ (c .if1 .taken))
 
-value-requires : tie.Need-value-requires
-value-requires c κs = search needs
-
-value-requires-2 : tie.Need-value-requires-2
-value-requires-2 c κs = search needs
-
-compares-requires : tie.Need-compares-requires
-compares-requires c κs = search needs
-
 returns-2 : tie.Need-returns-2
 unfolding holds conditionOf
 returns-2 c =
@@ -30,4 +21,4 @@ returns-2 c =
 
 pub holds-spec : {M : Type 1} → statement M
 holds-spec =
-    tie.close (tie.spec returns value-requires value-requires-2 compares-requires returns-2)
+    tie.close (tie.spec returns (search needs) (search needs) (search needs) returns-2)

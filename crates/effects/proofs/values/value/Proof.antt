@@ -8,18 +8,6 @@ use Rattle.effects.specs.Effects.{value}
 use Rattle.effects.proofs.values.value.Statement.{statement}
 use Rattle.effects.proofs.values.value.Tie as tie
 
-enum-told : tie.Need-enum-told
-enum-told c = search needs
-
-enum-known-operand : tie.Need-enum-known-operand
-enum-known-operand c = search needs
-
-enum-known-operand-2 : tie.Need-enum-known-operand-2
-enum-known-operand-2 c = search needs
-
-read-requires : tie.Need-read-requires
-read-requires c κs = search needs
-
 returns : tie.Need-returns
 unfolding value valueOf
 returns c = rw (c .enum-told .given .1)
@@ -36,10 +24,10 @@ pub value-spec : {M : Type 1} → statement M
 value-spec =
     tie.close
     (tie.spec
-    enum-told
-    enum-known-operand
-    enum-known-operand-2
-    read-requires
+    (search needs)
+    (search needs)
+    (search needs)
+    (search needs)
     returns
     returns-2
     returns-3)

@@ -9,16 +9,10 @@ use Rattle.program.proofs.Results.{tested}
 use Rattle.events.proofs.Event.is_input.Statement.{statement}
 use Rattle.events.proofs.Event.is_input.Tie as tie
 
-range-requires : tie.Need-range-requires
-range-requires c κs = search needs
-
 cast-holds : tie.Need-cast-holds
 cast-holds c =
     let f : SFits w32 (c .before .before .args .self .value) = search needs in
     wide f
-
-holds-requires : tie.Need-holds-requires
-holds-requires c κs = search needs
 
 returns : tie.Need-returns
 unfolding rangeOf
@@ -27,4 +21,4 @@ returns c =
     rw (tested (c .before .before .before .holds .ensures) (c .before .before .before .before .range .ensures) (back64 f))
 
 pub is-input-spec : {M : Type 1} → statement M
-is-input-spec = tie.close (tie.spec range-requires cast-holds holds-requires returns)
+is-input-spec = tie.close (tie.spec (search needs) cast-holds (search needs) returns)

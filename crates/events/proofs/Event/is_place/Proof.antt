@@ -8,16 +8,10 @@ use Rattle.program.proofs.Results.{tested}
 use Rattle.events.proofs.Event.is_place.Statement.{statement}
 use Rattle.events.proofs.Event.is_place.Tie as tie
 
-literals-requires : tie.Need-literals-requires
-literals-requires c κs = search needs
-
 cast-holds : tie.Need-cast-holds
 cast-holds c =
     let f : SFits w32 (c .before .before .args .self .value) = search needs in
     wide f
-
-holds-requires : tie.Need-holds-requires
-holds-requires c κs = search needs
 
 returns : tie.Need-returns
 returns c =
@@ -25,4 +19,4 @@ returns c =
     rw (tested (c .before .before .holds .ensures) (c .before .before .before .literals .ensures) (back64 f))
 
 pub is-place-spec : {M : Type 1} → statement M
-is-place-spec = tie.close (tie.spec literals-requires cast-holds holds-requires returns)
+is-place-spec = tie.close (tie.spec (search needs) cast-holds (search needs) returns)

@@ -18,50 +18,8 @@ use Rattle.events.proofs.records.write_record.Tie as tie
 returns : tie.Need-returns
 returns c = rw (record-none _ _ (eq-eqb _ _ (c .if1 .taken))) (omega arith, refl)
 
-write-requires : tie.Need-write-requires
-write-requires c κs = search needs
-
-add-write : tie.Need-add-write
-add-write c = search needs
-
-cast-write : tie.Need-cast-write
-cast-write c = search needs
-
-write-requires-2 : tie.Need-write-requires-2
-write-requires-2 c κs = search needs
-
-add-write-2 : tie.Need-add-write-2
-add-write-2 c = search needs
-
-cast-write-2 : tie.Need-cast-write-2
-cast-write-2 c = search needs
-
-write-requires-3 : tie.Need-write-requires-3
-write-requires-3 c κs = search needs
-
-add-write-3 : tie.Need-add-write-3
-add-write-3 c = search needs
-
-write-requires-4 : tie.Need-write-requires-4
-write-requires-4 c κs = search needs
-
-add-write-4 : tie.Need-add-write-4
-add-write-4 c = search needs
-
-digits-requires : tie.Need-digits-requires
-digits-requires c κs = search needs
-
-cast-write-3 : tie.Need-cast-write-3
-cast-write-3 c = search needs
-
-write-requires-5 : tie.Need-write-requires-5
-write-requires-5 c κs = search needs
-
 add-result : tie.Need-add-result
 add-result c = let st = c .before .before .before .before .before .before .before .before .before .before .before .before .before .before .before .before .before .before .before .before .before .before .before .before .before .before .before in let h = st .pre in let g = st .good in record { fits = omega arith }
-
-same-length : tie.Need-same-length
-same-length c = search needs
 
 returns-2 : tie.Need-returns-2
 returns-2 c =
@@ -80,19 +38,19 @@ write-record-spec =
     tie.close
     (tie.spec
     returns
-    write-requires
-    add-write
-    cast-write
-    write-requires-2
-    add-write-2
-    cast-write-2
-    write-requires-3
-    add-write-3
-    write-requires-4
-    add-write-4
-    digits-requires
-    cast-write-3
-    write-requires-5
+    (search needs)
+    (search needs)
+    (search needs)
+    (search needs)
+    (search needs)
+    (search needs)
+    (search needs)
+    (search needs)
+    (search needs)
+    (search needs)
+    (search needs)
+    (search needs)
+    (search needs)
     add-result
-    same-length
+    (search needs)
     returns-2)

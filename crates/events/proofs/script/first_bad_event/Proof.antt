@@ -17,9 +17,6 @@ Inv-loop s count k₀ k = (k ≤ count) × ((j : ℕ) → j < k → badEvent s j
 abbrev μ-loop : tie.MeasureT-loop
 μ-loop s count k₀ k = count - k
 
-event-count-requires : tie.Need-event-count-requires Inv-loop μ-loop
-event-count-requires c κs = search needs
-
 loop-holds : tie.Need-loop-holds Inv-loop μ-loop
 loop-holds c = (omega arith, λ j l. absurd (omega arith))
 
@@ -56,7 +53,7 @@ first-bad-event-spec =
     (tie.spec
     Inv-loop
     μ-loop
-    event-count-requires
+    (search needs)
     loop-holds
     is-bad-event-requires
     returns

@@ -8,26 +8,11 @@ use Rattle.events.specs.Events.{badEvent}
 use Rattle.events.proofs.script.is_bad_event.Statement.{statement}
 use Rattle.events.proofs.script.is_bad_event.Tie as tie
 
-whole-event-requires : tie.Need-whole-event-requires
-whole-event-requires c κs = search needs
-
-is-good-requires : tie.Need-is-good-requires
-is-good-requires c κs = search needs
-
 returns : tie.Need-returns
 unfolding badEvent
 returns c =
     let k = c .before .before .before .before .args .k in
     rw (lt-leb 1 k (omega arith), or-false, c .is-good .ensures, c .before .before .whole-event .ensures)
-
-sub-whole-event : tie.Need-sub-whole-event
-sub-whole-event c = search needs
-
-whole-event-requires-2 : tie.Need-whole-event-requires-2
-whole-event-requires-2 c κs = search needs
-
-is-good-requires-2 : tie.Need-is-good-requires-2
-is-good-requires-2 c κs = search needs
 
 returns-2 : tie.Need-returns-2
 unfolding badEvent
@@ -39,10 +24,10 @@ pub is-bad-event-spec : {M : Type 1} → statement M
 is-bad-event-spec =
     tie.close
     (tie.spec
-    whole-event-requires
-    is-good-requires
+    (search needs)
+    (search needs)
     returns
-    sub-whole-event
-    whole-event-requires-2
-    is-good-requires-2
+    (search needs)
+    (search needs)
+    (search needs)
     returns-2)

@@ -8,38 +8,20 @@ use borrow.Author.Needs.{needs}
 use Rattle.events.proofs.script.whole_event.Statement.{statement}
 use Rattle.events.proofs.script.whole_event.Tie as tie
 
-mul-at : tie.Need-mul-at
-mul-at c = search needs
-
 four-requires : tie.Need-four-requires
 four-requires c κs = let st = c .before in omega (arith, event-inside (st .args .s .now) (st .args .k) (st .pre .0))
-
-add-t5 : tie.Need-add-t5
-add-t5 c = search needs
 
 shared-slice-read-t7 : tie.Need-shared-slice-read-t7
 shared-slice-read-t7 c = let st = c .before .before .before in omega (arith, event-inside (st .args .s .now) (st .args .k) (st .pre .0))
 
-add-t8 : tie.Need-add-t8
-add-t8 c = search needs
-
 shared-slice-read-t10 : tie.Need-shared-slice-read-t10
 shared-slice-read-t10 c = let st = c .before .before .before .before in omega (arith, event-inside (st .args .s .now) (st .args .k) (st .pre .0))
-
-add-two : tie.Need-add-two
-add-two c = search needs
 
 two-requires : tie.Need-two-requires
 two-requires c κs = let st = c .before .before .before .before in omega (arith, event-inside (st .args .s .now) (st .args .k) (st .pre .0))
 
-add-four : tie.Need-add-four
-add-four c = search needs
-
 four-requires-2 : tie.Need-four-requires-2
 four-requires-2 c κs = let st = c .before .before .before .before .before in omega (arith, event-inside (st .args .s .now) (st .args .k) (st .pre .0))
-
-signed-requires : tie.Need-signed-requires
-signed-requires c κs = search needs
 
 returns : tie.Need-returns
 unfolding eventAt
@@ -50,15 +32,15 @@ pub whole-event-spec : {M : Type 1} → statement M
 whole-event-spec =
     tie.close
     (tie.spec
-    mul-at
+    (search needs)
     four-requires
-    add-t5
+    (search needs)
     shared-slice-read-t7
-    add-t8
+    (search needs)
     shared-slice-read-t10
-    add-two
+    (search needs)
     two-requires
-    add-four
+    (search needs)
     four-requires-2
-    signed-requires
+    (search needs)
     returns)

@@ -13,9 +13,6 @@ returns : tie.Need-returns
 unfolding slotBy
 returns c = search tests
 
-found-requires : tie.Need-found-requires
-found-requires c κs = search needs
-
 value-requires : tie.Need-value-requires
 value-requires c κs =
     let a = c .before .before .before in
@@ -27,12 +24,9 @@ returns-2 c =
     let l = c .before .before in
     rw (c .value .ensures, c .before .found .ensures, ne-eqb _ _ (l .before .if1 .left), l .if2 .taken)
 
-word-requires : tie.Need-word-requires
-word-requires c κs = search needs
-
 returns-3 : tie.Need-returns-3
 unfolding slotBy
 returns-3 c = rw (c .word .ensures, ne-eqb _ _ (c .before .before .if1 .left), c .before .if2 .left)
 
 pub slot-spec : {M : Type 1} → statement M
-slot-spec = tie.close (tie.spec returns found-requires value-requires returns-2 word-requires returns-3)
+slot-spec = tie.close (tie.spec returns (search needs) value-requires returns-2 (search needs) returns-3)

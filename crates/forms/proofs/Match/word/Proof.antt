@@ -6,12 +6,6 @@ use Rattle.forms.specs.Code.{keptBy, wordBy}
 use Rattle.forms.proofs.Match.word.Statement.{statement}
 use Rattle.forms.proofs.Match.word.Tie as tie
 
-fits-requires : tie.Need-fits-requires
-fits-requires c κs = search needs
-
-add-self : tie.Need-add-self
-add-self c = search needs
-
 returns : tie.Need-returns
 unfolding wordBy keptBy
 returns c = rw (c .before .before .before .fits2 .ensures, c .if1 .taken)
@@ -33,4 +27,4 @@ unfolding wordBy keptBy
 returns-5 c = rw (c .before .before .before .before .before .before .fits2 .ensures, c .before .before .before .if1 .left) (search tests)
 
 pub word-spec : {M : Type 1} → statement M
-word-spec = tie.close (tie.spec fits-requires add-self returns returns-2 returns-3 returns-4 returns-5)
+word-spec = tie.close (tie.spec (search needs) (search needs) returns returns-2 returns-3 returns-4 returns-5)

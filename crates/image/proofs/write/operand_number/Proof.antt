@@ -7,18 +7,6 @@ use Rattle.image.specs.Layout.{operandNumber}
 use Rattle.image.proofs.write.operand_number.Statement.{statement}
 use Rattle.image.proofs.write.operand_number.Tie as tie
 
-enum-told : tie.Need-enum-told
-enum-told c = search needs
-
-enum-known-o : tie.Need-enum-known-o
-enum-known-o c = search needs
-
-digits-requires : tie.Need-digits-requires
-digits-requires c κs = search needs
-
-enum-known-o-2 : tie.Need-enum-known-o-2
-enum-known-o-2 c = search needs
-
 returns : tie.Need-returns
 unfolding operandNumber
 returns c = rw (c .enum-told .given .1)
@@ -34,4 +22,4 @@ returns-3 c = rw (c .before .o2 .given .1)
 pub operand-number-spec : {M : Type 1} → statement M
 operand-number-spec =
     tie.close
-    (tie.spec enum-told enum-known-o digits-requires enum-known-o-2 returns returns-2 returns-3)
+    (tie.spec (search needs) (search needs) (search needs) (search needs) returns returns-2 returns-3)

@@ -5,18 +5,9 @@ use Rattle.image.specs.Code.{secondHalf}
 use Rattle.image.proofs.write.second_half.Statement.{statement}
 use Rattle.image.proofs.write.second_half.Tie as tie
 
-operand-number-requires : tie.Need-operand-number-requires
-operand-number-requires c κs = search needs
-
-four-bytes-requires : tie.Need-four-bytes-requires
-four-bytes-requires c κs = search needs
-
-eight-bytes-requires : tie.Need-eight-bytes-requires
-eight-bytes-requires c κs = search needs
-
 returns : tie.Need-returns
 unfolding secondHalf
 returns c = rw (c .eight-bytes .ensures, c .before .four-bytes .ensures, c .before .before .operand-number .ensures)
 
 pub second-half-spec : {M : Type 1} → statement M
-second-half-spec = tie.close (tie.spec operand-number-requires four-bytes-requires eight-bytes-requires returns)
+second-half-spec = tie.close (tie.spec (search needs) (search needs) (search needs) returns)

@@ -6,14 +6,8 @@ use Rattle.image.proofs.Laws.{bytes-two}
 use Rattle.image.proofs.write.two_bytes.Statement.{statement}
 use Rattle.image.proofs.write.two_bytes.Tie as tie
 
-mul-result : tie.Need-mul-result
-mul-result c = search needs
-
-add-result : tie.Need-add-result
-add-result c = search needs
-
 returns : tie.Need-returns
 returns c = bytes-two 1 1 (c .args .low) (c .args .high) (omega arith)
 
 pub two-bytes-spec : {M : Type 1} → statement M
-two-bytes-spec = tie.close (tie.spec mul-result add-result returns)
+two-bytes-spec = tie.close (tie.spec (search needs) (search needs) returns)

@@ -11,24 +11,6 @@ use Rattle.image.proofs.write.write_cell.Tie as tie
 returns : tie.Need-returns
 returns c = let a = c .before .before .args in sym (sets-out (a .b .now) (a .at) (cellBytes (a .c)) (c .if1 .taken))
 
-first-half-requires : tie.Need-first-half-requires
-first-half-requires c κs = search needs
-
-write-requires : tie.Need-write-requires
-write-requires c κs = search needs
-
-add-write : tie.Need-add-write
-add-write c = search needs
-
-second-half-requires : tie.Need-second-half-requires
-second-half-requires c κs = search needs
-
-write-requires-2 : tie.Need-write-requires-2
-write-requires-2 c κs = search needs
-
-same-length : tie.Need-same-length
-same-length c = search needs
-
 returns-2 : tie.Need-returns-2
 returns-2 c =
     let w₂ = c .before .before in
@@ -40,4 +22,4 @@ returns-2 c =
     (w₁ .write .ensures) (w₂ .write2 .ensures))
 
 pub write-cell-spec : {M : Type 1} → statement M
-write-cell-spec = tie.close (tie.spec returns first-half-requires write-requires add-write second-half-requires write-requires-2 same-length returns-2)
+write-cell-spec = tie.close (tie.spec returns (search needs) (search needs) (search needs) (search needs) (search needs) (search needs) returns-2)

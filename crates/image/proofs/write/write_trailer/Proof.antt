@@ -12,42 +12,9 @@ use Rattle.image.proofs.write.write_trailer.Tie as tie
 returns : tie.Need-returns
 returns c = let a = c .before .before .args in sym (sets-out (a .b .now) (a .at) (trailerBytes (a .cells) (a .labels) (a .variables)) (c .if1 .taken))
 
-label-place-requires : tie.Need-label-place-requires
-label-place-requires c κs = search needs
-
-cast-first-label : tie.Need-cast-first-label
-cast-first-label c = search needs
-
-image-length-requires : tie.Need-image-length-requires
-image-length-requires c κs = search needs
-
 cast-whole : tie.Need-cast-whole
 unfolding imageLength
 cast-whole c = omega (arith, c .image-length .ensures)
-
-four-bytes-requires : tie.Need-four-bytes-requires
-four-bytes-requires c κs = search needs
-
-eight-bytes-requires : tie.Need-eight-bytes-requires
-eight-bytes-requires c κs = search needs
-
-four-bytes-requires-2 : tie.Need-four-bytes-requires-2
-four-bytes-requires-2 c κs = search needs
-
-eight-bytes-requires-2 : tie.Need-eight-bytes-requires-2
-eight-bytes-requires-2 c κs = search needs
-
-write-requires : tie.Need-write-requires
-write-requires c κs = search needs
-
-add-write : tie.Need-add-write
-add-write c = search needs
-
-write-requires-2 : tie.Need-write-requires-2
-write-requires-2 c κs = search needs
-
-same-length : tie.Need-same-length
-same-length c = search needs
 
 returns-2 : tie.Need-returns-2
 returns-2 c =
@@ -62,4 +29,4 @@ returns-2 c =
     (twice-written (a .b .now) (a .at) (e₁ .eight-bytes .result) (e₂ .eight-bytes2 .result) refl refl (w₁ .write .ensures) (w₂ .write2 .ensures))
 
 pub write-trailer-spec : {M : Type 1} → statement M
-write-trailer-spec = tie.close (tie.spec returns label-place-requires cast-first-label image-length-requires cast-whole four-bytes-requires eight-bytes-requires four-bytes-requires-2 eight-bytes-requires-2 write-requires add-write write-requires-2 same-length returns-2)
+write-trailer-spec = tie.close (tie.spec returns (search needs) (search needs) (search needs) cast-whole (search needs) (search needs) (search needs) (search needs) (search needs) (search needs) (search needs) (search needs) returns-2)

@@ -6,21 +6,6 @@ use Rattle.numbers.proofs.Kit.{back32}
 use Rattle.image.proofs.write.write_variable.Statement.{statement}
 use Rattle.image.proofs.write.write_variable.Tie as tie
 
-four-bytes-requires : tie.Need-four-bytes-requires
-four-bytes-requires c κs = search needs
-
-digits-requires : tie.Need-digits-requires
-digits-requires c κs = search needs
-
-eight-bytes-requires : tie.Need-eight-bytes-requires
-eight-bytes-requires c κs = search needs
-
-write-requires : tie.Need-write-requires
-write-requires c κs = search needs
-
-same-length : tie.Need-same-length
-same-length c = search needs
-
 returns : tie.Need-returns
 returns c =
     let w = c .before .before in
@@ -29,4 +14,4 @@ returns c =
     rw (w .write .ensures, e .eight-bytes .ensures, d .digits .ensures, back32 (d .before .before .before .before .fits .start), d .before .four-bytes .ensures) (simp append-assoc)
 
 pub write-variable-spec : {M : Type 1} → statement M
-write-variable-spec = tie.close (tie.spec four-bytes-requires digits-requires eight-bytes-requires write-requires same-length returns)
+write-variable-spec = tie.close (tie.spec (search needs) (search needs) (search needs) (search needs) (search needs) returns)

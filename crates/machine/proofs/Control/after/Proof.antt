@@ -12,80 +12,17 @@ use borrow.Author.Needs.{needs}
 use Rattle.machine.proofs.Control.after.Statement.{statement}
 use Rattle.machine.proofs.Control.after.Tie as tie
 
-enum-told : tie.Need-enum-told
-enum-told c = search needs
-
-failed-requires : tie.Need-failed-requires
-failed-requires c κs = search needs
-
-enum-known-does : tie.Need-enum-known-does
-enum-known-does c = search needs
-
-at-requires : tie.Need-at-requires
-at-requires c κs = search needs
-
-enum-known-does-2 : tie.Need-enum-known-does-2
-enum-known-does-2 c = search needs
-
 called-requires : tie.Need-called-requires
 called-requires c κs = (c .before .before .before .pre .0, c .before .before .before .pre .1 .calls _ (c .before .does2 .given .1))
-
-enum-told-2 : tie.Need-enum-told-2
-enum-told-2 c = search needs
 
 returned-requires : tie.Need-returned-requires
 returned-requires c κs = c .before .before .pre .1 .returns (c .enum-told2 .given .1)
 
-enum-told-3 : tie.Need-enum-told-3
-enum-told-3 c = search needs
-
-at-requires-2 : tie.Need-at-requires-2
-at-requires-2 c κs = search needs
-
-enum-told-4 : tie.Need-enum-told-4
-enum-told-4 c = search needs
-
-enum-known-does-3 : tie.Need-enum-known-does-3
-enum-known-does-3 c = search needs
-
-held-requires : tie.Need-held-requires
-held-requires c κs = search needs
-
-enum-known-does-4 : tie.Need-enum-known-does-4
-enum-known-does-4 c = search needs
-
-with-handler-requires : tie.Need-with-handler-requires
-with-handler-requires c κs = search needs
-
 onward-requires : tie.Need-onward-requires
 onward-requires c κs = rw (ap (λ (m : Machine). m .next) (c .with-handler .ensures [])) (c .before .before .before .before .pre .0)
 
-enum-told-5 : tie.Need-enum-told-5
-enum-told-5 c = search needs
-
-with-handler-requires-2 : tie.Need-with-handler-requires-2
-with-handler-requires-2 c κs = search needs
-
 onward-requires-2 : tie.Need-onward-requires-2
 onward-requires-2 c κs = rw (ap (λ (m : Machine). m .next) (c .with-handler2 .ensures [])) (c .before .before .before .pre .0)
-
-enum-known-does-5 : tie.Need-enum-known-does-5
-enum-known-does-5 c = search needs
-
-moved-requires : tie.Need-moved-requires
-moved-requires c κs = search needs
-
-enum-known-does-6 : tie.Need-enum-known-does-6
-enum-known-does-6 c = search needs
-
-slew-requires : tie.Need-slew-requires
-slew-requires c κs = search needs
-
-moved-requires-2 : tie.Need-moved-requires-2
-moved-requires-2 c κs = search needs
-
-onward-requires-3 : tie.Need-onward-requires-3
-onward-requires-3 c κs = search needs
 
 returns : tie.Need-returns
 unfolding turn
@@ -138,31 +75,31 @@ pub after-spec : {M : Type 1} → statement M
 after-spec =
     tie.close
     (tie.spec
-    enum-told
-    failed-requires
-    enum-known-does
-    at-requires
-    enum-known-does-2
+    (search needs)
+    (search needs)
+    (search needs)
+    (search needs)
+    (search needs)
     called-requires
-    enum-told-2
+    (search needs)
     returned-requires
-    enum-told-3
-    at-requires-2
-    enum-told-4
-    enum-known-does-3
-    held-requires
-    enum-known-does-4
-    with-handler-requires
+    (search needs)
+    (search needs)
+    (search needs)
+    (search needs)
+    (search needs)
+    (search needs)
+    (search needs)
     onward-requires
-    enum-told-5
-    with-handler-requires-2
+    (search needs)
+    (search needs)
     onward-requires-2
-    enum-known-does-5
-    moved-requires
-    enum-known-does-6
-    slew-requires
-    moved-requires-2
-    onward-requires-3
+    (search needs)
+    (search needs)
+    (search needs)
+    (search needs)
+    (search needs)
+    (search needs)
     returns
     returns-2
     returns-3

@@ -11,15 +11,9 @@ use borrow.Author.Needs.{needs}
 use Rattle.machine.proofs.Control.failed.Statement.{statement}
 use Rattle.machine.proofs.Control.failed.Tie as tie
 
-onward-requires : tie.Need-onward-requires
-onward-requires c κs = search needs
-
 returns : tie.Need-returns
 unfolding failed flagged changed noHandler
 returns c = λ error vars. simp (eq-eqb _ _ (c .before .if1 .taken)) (c .onward .ensures (changed (Fails error) vars))
-
-with-handler-requires : tie.Need-with-handler-requires
-with-handler-requires c κs = search needs
 
 called-requires : tie.Need-called-requires
 called-requires c κs = let w = c .with-handler .ensures [] in (rw (ap (λ (m : Machine). m .next) w) (c .before .before .before .before .before .pre), rw (ap (λ (m : Machine). m .places .kept) w) (c .before .if2 .taken))
@@ -35,4 +29,4 @@ returns-3 c = λ error vars. simp (ne-eqb _ _ (c .before .before .if1 .left), le
 pub failed-spec : {M : Type 1} → statement M
 failed-spec =
     tie.close
-    (tie.spec onward-requires returns with-handler-requires called-requires returns-2 returns-3)
+    (tie.spec (search needs) returns (search needs) called-requires returns-2 returns-3)

@@ -6,12 +6,9 @@ use borrow.Author.Needs.{needs}
 use Rattle.machine.proofs.Control.moved.Statement.{statement}
 use Rattle.machine.proofs.Control.moved.Tie as tie
 
-onward-requires : tie.Need-onward-requires
-onward-requires c κs = search needs
-
 returns : tie.Need-returns
 unfolding inMotion
 returns c = λ vars. c .onward .ensures (set vars 14 (movingBit (c .before .before .args .motion)))
 
 pub moved-spec : {M : Type 1} → statement M
-moved-spec = tie.close (tie.spec onward-requires returns)
+moved-spec = tie.close (tie.spec (search needs) returns)

@@ -8,9 +8,6 @@ use borrow.Author.Needs.{needs}
 use Rattle.machine.proofs.Control.stops.Statement.{statement}
 use Rattle.machine.proofs.Control.stops.Tie as tie
 
-enum-told : tie.Need-enum-told
-enum-told c = search needs
-
 returns : tie.Need-returns
 unfolding turn noHandler
 returns c = λ cells vars. let st = c .before .before .before .before in rw (c .before .before .enum-told .given .1) (error-stops _ (joined vars (st .args .self)))
@@ -19,4 +16,4 @@ returns-2 : tie.Need-returns-2
 returns-2 c = λ cells vars. runs-on (c .before .args .does) cells (joined vars (c .before .args .self)) (c .match .keys2)
 
 pub stops-spec : {M : Type 1} → statement M
-stops-spec = tie.close (tie.spec enum-told returns returns-2)
+stops-spec = tie.close (tie.spec (search needs) returns returns-2)

@@ -7,14 +7,8 @@ use borrow.Author.Needs.{needs}
 use Rattle.machine.proofs.Machine.turn.Statement.{statement}
 use Rattle.machine.proofs.Machine.turn.Tie as tie
 
-reach-requires : tie.Need-reach-requires
-reach-requires c κs = search needs
-
 slice-aggregate-effect : tie.Need-slice-aggregate-effect
 slice-aggregate-effect c = let n : length (c .before .before .before .before .before .before .args .self .variables) ≡ 64 = search needs in sym (c .before .reach .ensures .size ∙ n)
-
-effect-requires : tie.Need-effect-requires
-effect-requires c κs = search needs
 
 change-requires : tie.Need-change-requires
 change-requires c κs = let n : length (c .before .before .before .before .before .before .before .before .args .self .variables) ≡ 64 = search needs in c .before .before .before .reach .ensures .size ∙ n
@@ -22,17 +16,8 @@ change-requires c κs = let n : length (c .before .before .before .before .befor
 after-requires : tie.Need-after-requires
 after-requires c κs = let st = c .before .before .before .before .before .before .before .before .before in (st .pre .0, ready _ (st .args .self .places .kept) (st .args .self .hold) _ (c .before .before .effect .ensures))
 
-joined-requires : tie.Need-joined-requires
-joined-requires c κs = search needs
-
-recorded-requires : tie.Need-recorded-requires
-recorded-requires c κs = search needs
-
-stops-requires : tie.Need-stops-requires
-stops-requires c κs = search needs
-
 returns : tie.Need-returns
-returns c = 
+returns c =
     let j = c .before .before in
     let ch = j .before .before in
     let ef = ch .before .before in
@@ -44,12 +29,12 @@ pub turn-spec : {M : Type 1} → statement M
 turn-spec =
     tie.close
     (tie.spec
-    reach-requires
+    (λ c κs. search needs)
     slice-aggregate-effect
-    effect-requires
+    (search needs)
     change-requires
     after-requires
-    joined-requires
-    recorded-requires
-    stops-requires
+    (search needs)
+    (search needs)
+    (search needs)
     returns)

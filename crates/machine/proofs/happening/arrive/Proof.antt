@@ -8,33 +8,6 @@ use Rattle.machine.proofs.Inputs.{arrived-still, arrived-to, arrived-sl
 use Rattle.machine.proofs.happening.arrive.Statement.{statement}
 use Rattle.machine.proofs.happening.arrive.Tie as tie
 
-enum-told : tie.Need-enum-told
-enum-told c = search needs
-
-enum-known-motion : tie.Need-enum-known-motion
-enum-known-motion c = search needs
-
-cast-p : tie.Need-cast-p
-cast-p c = search needs
-
-cast-moving : tie.Need-cast-moving
-cast-moving c = search needs
-
-mul-target : tie.Need-mul-target
-mul-target c = search needs
-
-element-set-from-target : tie.Need-element-set-from-target
-element-set-from-target c = search needs
-
-mul-vars : tie.Need-mul-vars
-mul-vars c = search needs
-
-element-set-of-vars : tie.Need-element-set-of-vars
-element-set-of-vars c = search needs
-
-enum-told-2 : tie.Need-enum-told-2
-enum-told-2 c = search needs
-
 returns : tie.Need-returns
 returns c = arrived-still (c .enum-told .given .1)
 
@@ -51,15 +24,15 @@ pub arrive-spec : {M : Type 1} → statement M
 arrive-spec =
     tie.close
     (tie.spec
-    enum-told
-    enum-known-motion
-    cast-p
-    cast-moving
-    mul-target
-    element-set-from-target
-    mul-vars
-    element-set-of-vars
-    enum-told-2
+    (search needs)
+    (search needs)
+    (search needs)
+    (search needs)
+    (search needs)
+    (search needs)
+    (search needs)
+    (search needs)
+    (search needs)
     returns
     returns-2
     returns-3)

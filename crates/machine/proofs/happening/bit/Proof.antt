@@ -6,9 +6,6 @@ use Rattle.machine.proofs.Kit.{bit-fits, bit-back}
 use Rattle.machine.proofs.happening.bit.Statement.{statement}
 use Rattle.machine.proofs.happening.bit.Tie as tie
 
-read-requires : tie.Need-read-requires
-read-requires c κs = search needs
-
 cast-result : tie.Need-cast-result
 cast-result c = bit-fits (c .read .result) (c .read .ok) (rw (c .read .ensures) (c .before .pre))
 
@@ -16,4 +13,4 @@ returns : tie.Need-returns
 returns c = bit-back (c .read .result) (c .read .ok) (rw (c .read .ensures) (c .before .pre)) ∙ c .read .ensures
 
 pub bit-spec : {M : Type 1} → statement M
-bit-spec = tie.close (tie.spec read-requires cast-result returns)
+bit-spec = tie.close (tie.spec (search needs) cast-result returns)

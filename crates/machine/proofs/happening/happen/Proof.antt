@@ -20,20 +20,8 @@ returns c =
     let f : SFits w32 (c .before .before .before .before .before .args .event .value) = search needs in
     happened-input (c .before .before .before .if1 .taken) (simp (back32 f) at (c .input .ensures))
 
-arrive-requires : tie.Need-arrive-requires
-arrive-requires c κs = search needs
-
 returns-2 : tie.Need-returns-2
 returns-2 c = happened-arrival (c .before .before .before .before .if1 .left) (c .before .before .if2 .taken) (c .arrive .ensures)
-
-cast-p : tie.Need-cast-p
-cast-p c = search needs
-
-mul-place : tie.Need-mul-place
-mul-place c = search needs
-
-element-set-from-place : tie.Need-element-set-from-place
-element-set-from-place c = search needs
 
 returns-3 : tie.Need-returns-3
 returns-3 c =
@@ -46,9 +34,9 @@ happen-spec =
     (tie.spec
     input-requires
     returns
-    arrive-requires
+    (search needs)
     returns-2
-    cast-p
-    mul-place
-    element-set-from-place
+    (search needs)
+    (search needs)
+    (search needs)
     returns-3)

@@ -11,34 +11,10 @@ use Rattle.machine.proofs.Inputs.{inputs-set}
 use Rattle.machine.proofs.happening.input.Statement.{statement}
 use Rattle.machine.proofs.happening.input.Tie as tie
 
-cast-i : tie.Need-cast-i
-cast-i c = search needs
-
-add-i : tie.Need-add-i
-add-i c = search needs
-
-sub-i : tie.Need-sub-i
-sub-i c = search needs
-
-mul-value : tie.Need-mul-value
-mul-value c = search needs
-
-element-set-from-value : tie.Need-element-set-from-value
-element-set-from-value c = search needs
-
-cast-all : tie.Need-cast-all
-cast-all c = search needs
-
 all-inputs-requires : tie.Need-all-inputs-requires
 all-inputs-requires c κs =
     let st = c .before .before in
     rw (back32 (st .fits .value)) (inputs-set (st .pre .0) _ _ (λ k l e. st .pre .2))
-
-mul-sum : tie.Need-mul-sum
-mul-sum c = search needs
-
-element-set-from-sum : tie.Need-element-set-from-sum
-element-set-from-sum c = search needs
 
 returns : tie.Need-returns
 unfolding input
@@ -53,13 +29,13 @@ pub input-spec : {M : Type 1} → statement M
 input-spec =
     tie.close
     (tie.spec
-    cast-i
-    add-i
-    sub-i
-    mul-value
-    element-set-from-value
-    cast-all
+    (search needs)
+    (search needs)
+    (search needs)
+    (search needs)
+    (search needs)
+    (search needs)
     all-inputs-requires
-    mul-sum
-    element-set-from-sum
+    (search needs)
+    (search needs)
     returns)

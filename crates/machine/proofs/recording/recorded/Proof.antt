@@ -10,30 +10,6 @@ use borrow.Author.Needs.{needs}
 use Rattle.machine.proofs.recording.recorded.Statement.{statement}
 use Rattle.machine.proofs.recording.recorded.Tie as tie
 
-enum-known-does : tie.Need-enum-known-does
-enum-known-does c = search needs
-
-cast-t12 : tie.Need-cast-t12
-cast-t12 c = search needs
-
-enum-known-does-2 : tie.Need-enum-known-does-2
-enum-known-does-2 c = search needs
-
-stored-requires : tie.Need-stored-requires
-stored-requires c κs = search needs
-
-enum-known-does-3 : tie.Need-enum-known-does-3
-enum-known-does-3 c = search needs
-
-enum-known-does-4 : tie.Need-enum-known-does-4
-enum-known-does-4 c = search needs
-
-enum-known-does-5 : tie.Need-enum-known-does-5
-enum-known-does-5 c = search needs
-
-nothing-requires : tie.Need-nothing-requires
-nothing-requires c κs = search needs
-
 returns : tie.Need-returns
 unfolding turn
 returns c = λ cells m. let d = c .before .does .given in let f : Fits w8 (d .0 .0) = search needs in rw (d .1) (rw (byte-up f) (error-recorded (d .0 .0) m))
@@ -61,14 +37,14 @@ pub recorded-spec : {M : Type 1} → statement M
 recorded-spec =
     tie.close
     (tie.spec
-    enum-known-does
-    cast-t12
-    enum-known-does-2
-    stored-requires
-    enum-known-does-3
-    enum-known-does-4
-    enum-known-does-5
-    nothing-requires
+    (search needs)
+    (search needs)
+    (search needs)
+    (search needs)
+    (search needs)
+    (search needs)
+    (search needs)
+    (search needs)
     returns
     returns-2
     returns-3

@@ -13,9 +13,6 @@ use Rattle.machine.proofs.recording.stored.Tie as tie
 sub-t6 : tie.Need-sub-t6
 sub-t6 c = output (c .before .args .v) (c .if1 .taken)
 
-add-t7 : tie.Need-add-t7
-add-t7 c = search needs
-
 returns : tie.Need-returns
 unfolding storeRecord
 returns c =
@@ -23,12 +20,9 @@ returns c =
     let e : (c .before .args .v - 11) + 1 ≡ c .before .args .v - 10 = omega arith in
     simp (c .if1 .taken, e, back32 (c .before .fits .value))
 
-nothing-requires : tie.Need-nothing-requires
-nothing-requires c κs = search needs
-
 returns-2 : tie.Need-returns-2
 unfolding storeRecord
 returns-2 c = simp (c .before .if1 .left) (c .nothing .ensures)
 
 pub stored-spec : {M : Type 1} → statement M
-stored-spec = tie.close (tie.spec sub-t6 add-t7 returns nothing-requires returns-2)
+stored-spec = tie.close (tie.spec sub-t6 (search needs) returns (search needs) returns-2)

@@ -9,33 +9,6 @@ use borrow.Author.Needs.{needs}
 use Rattle.machine.proofs.turn.change.Statement.{statement}
 use Rattle.machine.proofs.turn.change.Tie as tie
 
-enum-known-does : tie.Need-enum-known-does
-enum-known-does c = search needs
-
-flag-requires : tie.Need-flag-requires
-flag-requires c κs = search needs
-
-enum-known-does-2 : tie.Need-enum-known-does-2
-enum-known-does-2 c = search needs
-
-store-requires : tie.Need-store-requires
-store-requires c κs = search needs
-
-enum-known-does-3 : tie.Need-enum-known-does-3
-enum-known-does-3 c = search needs
-
-set-moving-requires : tie.Need-set-moving-requires
-set-moving-requires c κs = search needs
-
-enum-known-does-4 : tie.Need-enum-known-does-4
-enum-known-does-4 c = search needs
-
-slew-requires : tie.Need-slew-requires
-slew-requires c κs = search needs
-
-set-moving-requires-2 : tie.Need-set-moving-requires-2
-set-moving-requires-2 c κs = search needs
-
 returns : tie.Need-returns
 unfolding changed
 returns c = rw (c .before .before .before .does .given .1) (c .flag .ensures)
@@ -68,15 +41,15 @@ pub change-spec : {M : Type 1} → statement M
 change-spec =
     tie.close
     (tie.spec
-    enum-known-does
-    flag-requires
-    enum-known-does-2
-    store-requires
-    enum-known-does-3
-    set-moving-requires
-    enum-known-does-4
-    slew-requires
-    set-moving-requires-2
+    (search needs)
+    (search needs)
+    (search needs)
+    (search needs)
+    (search needs)
+    (search needs)
+    (search needs)
+    (search needs)
+    (search needs)
     returns
     returns-2
     returns-3

@@ -4,11 +4,8 @@ use borrow.Author.Needs.{needs}
 use Rattle.reading.proofs.Reading.faulty.Statement.{statement}
 use Rattle.reading.proofs.Reading.faulty.Tie as tie
 
-no-cell-requires : tie.Need-no-cell-requires
-no-cell-requires c κs = search needs
-
 returns : tie.Need-returns
 returns c = rw (c .no-cell .ensures)
 
 pub faulty-spec : {M : Type 1} → statement M
-faulty-spec = tie.close (tie.spec no-cell-requires returns)
+faulty-spec = tie.close (tie.spec (search needs) returns)

@@ -8,15 +8,6 @@ use Rattle.reading.proofs.Values.{big-size}
 use Rattle.reading.proofs.cells.is_big.Statement.{statement}
 use Rattle.reading.proofs.cells.is_big.Tie as tie
 
-enum-known-value : tie.Need-enum-known-value
-enum-known-value c = search needs
-
-cast-result : tie.Need-cast-result
-cast-result c = search needs
-
-enum-told : tie.Need-enum-told
-enum-told c = search needs
-
 returns : tie.Need-returns
 unfolding bigValue valueOf
 returns c = rw (c .before .value .given .1) (sym (big-size (c .before .value .given .0 .0) (c .before .value .given .0 .1 .0)))
@@ -26,4 +17,4 @@ unfolding bigValue valueOf
 returns-2 c = rw (c .enum-told .given .1)
 
 pub is-big-spec : {M : Type 1} → statement M
-is-big-spec = tie.close (tie.spec enum-known-value cast-result enum-told returns returns-2)
+is-big-spec = tie.close (tie.spec (search needs) (search needs) (search needs) returns returns-2)

@@ -5,9 +5,6 @@ use Rattle.reading.specs.Code.{leftBy}
 use Rattle.reading.proofs.cells.left.Statement.{statement}
 use Rattle.reading.proofs.cells.left.Tie as tie
 
-operand-requires : tie.Need-operand-requires
-operand-requires c κs = search needs
-
 returns : tie.Need-returns
 unfolding leftBy
 returns c = rw (c .operand .ensures, c .before .if1 .taken)
@@ -17,4 +14,4 @@ unfolding leftBy
 returns-2 c = rw (c .if1 .left)
 
 pub left-spec : {M : Type 1} → statement M
-left-spec = tie.close (tie.spec operand-requires returns returns-2)
+left-spec = tie.close (tie.spec (search needs) returns returns-2)

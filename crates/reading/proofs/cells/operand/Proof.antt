@@ -8,18 +8,6 @@ use Rattle.program.proofs.Keys.{key-name}
 use Rattle.reading.proofs.cells.operand.Statement.{statement}
 use Rattle.reading.proofs.cells.operand.Tie as tie
 
-enum-known-value : tie.Need-enum-known-value
-enum-known-value c = search needs
-
-signed-requires : tie.Need-signed-requires
-signed-requires c κs = search needs
-
-enum-known-value-2 : tie.Need-enum-known-value-2
-enum-known-value-2 c = search needs
-
-cast-t7 : tie.Need-cast-t7
-cast-t7 c = search needs
-
 returns : tie.Need-returns
 unfolding operandOf valueOf
 returns c = rw (c .before .before .value .given .1, back32 (fit32 _ (c .signed .ok)), c .signed .ensures)
@@ -31,4 +19,4 @@ returns-2 c = rw (c .before .value2 .given .1, key-name)
 pub operand-spec : {M : Type 1} → statement M
 operand-spec =
     tie.close
-    (tie.spec enum-known-value signed-requires enum-known-value-2 cast-t7 returns returns-2)
+    (tie.spec (search needs) (search needs) (search needs) (search needs) returns returns-2)

@@ -6,9 +6,6 @@ use Rattle.reading.specs.Code.{rightBy}
 use Rattle.reading.proofs.cells.right.Statement.{statement}
 use Rattle.reading.proofs.cells.right.Tie as tie
 
-operand-requires : tie.Need-operand-requires
-operand-requires c κs = search needs
-
 returns : tie.Need-returns
 unfolding rightBy
 returns c = rw (c .operand .ensures) (search tests)
@@ -18,4 +15,4 @@ unfolding rightBy
 returns-2 c = search tests
 
 pub right-spec : {M : Type 1} → statement M
-right-spec = tie.close (tie.spec operand-requires returns returns-2)
+right-spec = tie.close (tie.spec (search needs) returns returns-2)

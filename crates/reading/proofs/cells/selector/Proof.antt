@@ -10,15 +10,9 @@ returns : tie.Need-returns
 unfolding selectorBy
 returns c = search tests
 
-operator-number-requires : tie.Need-operator-number-requires
-operator-number-requires c κs = search needs
-
 returns-2 : tie.Need-returns-2
 unfolding selectorBy
 returns-2 c = rw (c .operator-number .ensures) (search tests)
-
-comparison-number-requires : tie.Need-comparison-number-requires
-comparison-number-requires c κs = search needs
 
 returns-3 : tie.Need-returns-3
 unfolding selectorBy
@@ -26,4 +20,4 @@ returns-3 c = rw (c .comparison-number .ensures) (search tests)
 
 pub selector-spec : {M : Type 1} → statement M
 selector-spec =
-    tie.close (tie.spec returns operator-number-requires returns-2 comparison-number-requires returns-3)
+    tie.close (tie.spec returns (search needs) returns-2 (search needs) returns-3)

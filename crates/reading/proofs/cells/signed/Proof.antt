@@ -11,14 +11,8 @@ use Rattle.reading.proofs.Values.{small-big, small-is, opposite, meanin
 use Rattle.reading.proofs.cells.signed.Statement.{statement}
 use Rattle.reading.proofs.cells.signed.Tie as tie
 
-cast-if1 : tie.Need-cast-if1
-cast-if1 c = search needs
-
 returns : tie.Need-returns
 returns c = let a = c .before .args in small-big (a .negative) (a .size) (c .if1 .taken)
-
-cast-z : tie.Need-cast-z
-cast-z c = search needs
 
 sub-result : tie.Need-sub-result
 sub-result c =
@@ -39,4 +33,4 @@ returns-3 c =
     toZ-pos w32 (omega arith) ∙ meaning-above (a .negative) (a .size) (c .if2 .left) ∙ sym (small-is (a .negative) (a .size) (c .before .if1 .left))
 
 pub signed-spec : {M : Type 1} → statement M
-signed-spec = tie.close (tie.spec cast-if1 returns cast-z sub-result returns-2 returns-3)
+signed-spec = tie.close (tie.spec (search needs) returns (search needs) sub-result returns-2 returns-3)

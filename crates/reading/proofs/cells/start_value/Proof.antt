@@ -8,15 +8,6 @@ use Rattle.text.specs.Faults.{tooBig}
 use Rattle.reading.proofs.cells.start_value.Statement.{statement}
 use Rattle.reading.proofs.cells.start_value.Tie as tie
 
-enum-known-value : tie.Need-enum-known-value
-enum-known-value c = search needs
-
-signed-requires : tie.Need-signed-requires
-signed-requires c κs = search needs
-
-enum-told : tie.Need-enum-told
-enum-told c = search needs
-
 returns : tie.Need-returns
 unfolding startOf
 returns c = rw (c .before .before .value .given .1, back32 (fit32 _ (c .signed .ok)), c .signed .ensures)
@@ -26,4 +17,4 @@ unfolding startOf smallOf tooBig
 returns-2 c = rw (c .enum-told .given .1)
 
 pub start-value-spec : {M : Type 1} → statement M
-start-value-spec = tie.close (tie.spec enum-known-value signed-requires enum-told returns returns-2)
+start-value-spec = tie.close (tie.spec (search needs) (search needs) (search needs) returns returns-2)

@@ -6,31 +6,10 @@ use Rattle.reading.proofs.Openings.{head-blank, head-whole}
 use Rattle.reading.proofs.heads.line_head.Statement.{statement}
 use Rattle.reading.proofs.heads.line_head.Tie as tie
 
-past-spaces-requires : tie.Need-past-spaces-requires
-past-spaces-requires c κs = search needs
-
 returns : tie.Need-returns
 returns c =
     let p = c .before in
     head-blank (now (p .before .before .args .l)) (p .past-spaces .result) (p .past-spaces .ensures) (c .if1 .taken)
-
-shared-slice-read-kind-by : tie.Need-shared-slice-read-kind-by
-shared-slice-read-kind-by c = search needs
-
-read2-requires : tie.Need-read2-requires
-read2-requires c κs = search needs
-
-kind-by-requires : tie.Need-kind-by-requires
-kind-by-requires c κs = search needs
-
-add-past-spaces : tie.Need-add-past-spaces
-add-past-spaces c = search needs
-
-past-spaces-requires-2 : tie.Need-past-spaces-requires-2
-past-spaces-requires-2 c κs = search needs
-
-read2-requires-2 : tie.Need-read2-requires-2
-read2-requires-2 c κs = search needs
 
 returns-2 : tie.Need-returns-2
 returns-2 c =
@@ -44,4 +23,4 @@ returns-2 c =
 pub line-head-spec : {M : Type 1} → statement M
 line-head-spec =
     tie.close
-    (tie.spec past-spaces-requires returns shared-slice-read-kind-by read2-requires kind-by-requires add-past-spaces past-spaces-requires-2 read2-requires-2 returns-2)
+    (tie.spec (search needs) returns (search needs) (search needs) (search needs) (search needs) (search needs) (search needs) returns-2)

@@ -7,9 +7,6 @@ use Rattle.text.proofs.Scanning.{inside}
 use Rattle.text.proofs.tokens.character.Statement.{statement}
 use Rattle.text.proofs.tokens.character.Tie as tie
 
-shared-slice-read-result : tie.Need-shared-slice-read-result
-shared-slice-read-result c = search needs
-
 returns : tie.Need-returns
 returns c = let a = c .before .before in inside (now (a .args .l)) (a .args .at) 0 32 (c .before .if1 .taken)
 
@@ -17,4 +14,4 @@ returns-2 : tie.Need-returns-2
 returns-2 c = rw (List·getD-eq-default (now (c .before .args .l)) 32 (c .if1 .left))
 
 pub character-spec : {M : Type 1} → statement M
-character-spec = tie.close (tie.spec shared-slice-read-result returns returns-2)
+character-spec = tie.close (tie.spec (search needs) returns returns-2)

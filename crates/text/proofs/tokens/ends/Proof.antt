@@ -5,12 +5,9 @@ use Rattle.text.specs.Code.{ends}
 use Rattle.text.proofs.tokens.ends.Statement.{statement}
 use Rattle.text.proofs.tokens.ends.Tie as tie
 
-joins-requires : tie.Need-joins-requires
-joins-requires c κs = search needs
-
 returns : tie.Need-returns
 unfolding ends
 returns c = rw (c .joins .ensures)
 
 pub ends-spec : {M : Type 1} → statement M
-ends-spec = tie.close (tie.spec joins-requires returns)
+ends-spec = tie.close (tie.spec (search needs) returns)

@@ -25,9 +25,6 @@ loop-holds c = (omega arith, refl)
 shared-slice-read-is-allowed : tie.Need-shared-slice-read-is-allowed Inv-loop μ-loop
 shared-slice-read-is-allowed c = omega arith
 
-is-allowed-requires : tie.Need-is-allowed-requires Inv-loop μ-loop
-is-allowed-requires c κs = search needs
-
 returns : tie.Need-returns Inv-loop μ-loop
 returns c =
     let a = c .before in
@@ -57,7 +54,7 @@ is-printable-spec =
     μ-loop
     loop-holds
     shared-slice-read-is-allowed
-    is-allowed-requires
+    (search needs)
     returns
     add-i
     loop-less

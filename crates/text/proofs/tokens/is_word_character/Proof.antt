@@ -5,15 +5,9 @@ use Rattle.program.specs.Names.{wordCharacter}
 use Rattle.text.proofs.tokens.is_word_character.Statement.{statement}
 use Rattle.text.proofs.tokens.is_word_character.Tie as tie
 
-is-letter-requires : tie.Need-is-letter-requires
-is-letter-requires c κs = search needs
-
-is-digit-requires : tie.Need-is-digit-requires
-is-digit-requires c κs = search needs
-
 returns : tie.Need-returns
 unfolding wordCharacter
 returns c = rw (c .before .is-letter .ensures, c .is-digit .ensures)
 
 pub is-word-character-spec : {M : Type 1} → statement M
-is-word-character-spec = tie.close (tie.spec is-letter-requires is-digit-requires returns)
+is-word-character-spec = tie.close (tie.spec (search needs) (search needs) returns)

@@ -10,12 +10,6 @@ returns : tie.Need-returns
 unfolding keyWith
 returns c = search tests
 
-mul-result : tie.Need-mul-result
-mul-result c = search needs
-
-add-result : tie.Need-add-result
-add-result c = search needs
-
 returns-2 : tie.Need-returns-2
 unfolding keyWith
 returns-2 c = search tests
@@ -25,4 +19,4 @@ unfolding keyWith
 returns-3 c = search tests
 
 pub key-with-spec : {M : Type 1} → statement M
-key-with-spec = tie.close (tie.spec returns mul-result add-result returns-2 returns-3)
+key-with-spec = tie.close (tie.spec returns (search needs) (search needs) returns-2 returns-3)

@@ -21,12 +21,6 @@ Inv-loop l ts₀ w₀ i₀ ts w i =
 abbrev μ-loop : tie.MeasureT-loop
 μ-loop l ts₀ w₀ i₀ ts w i = length l - i
 
-none-requires : tie.Need-none-requires Inv-loop μ-loop
-none-requires c κs = search needs
-
-none-requires-2 : tie.Need-none-requires-2 Inv-loop μ-loop
-none-requires-2 c κs = search needs
-
 loop-holds : tie.Need-loop-holds Inv-loop μ-loop
 loop-holds c =
     let s = scan-start (now (c .before .before .before .args .l)) (c .before .none .ensures) (c .none2 .ensures) in
@@ -38,23 +32,8 @@ shared-slice-read-c c = omega arith
 add-i : tie.Need-add-i Inv-loop μ-loop
 add-i c = omega arith
 
-character-requires : tie.Need-character-requires Inv-loop μ-loop
-character-requires c κs = search needs
-
 grown-requires : tie.Need-grown-requires Inv-loop μ-loop
 grown-requires c κs = record { counts = omega arith; small = c .before .before .before .loop .inv .2 }
-
-ends-requires : tie.Need-ends-requires Inv-loop μ-loop
-ends-requires c κs = search needs
-
-token-requires : tie.Need-token-requires Inv-loop μ-loop
-token-requires c κs = search needs
-
-pushed-requires : tie.Need-pushed-requires Inv-loop μ-loop
-pushed-requires c κs = search needs
-
-none-requires-3 : tie.Need-none-requires-3 Inv-loop μ-loop
-none-requires-3 c κs = search needs
 
 loop-less : tie.Need-loop-less Inv-loop μ-loop
 loop-less c = omega arith
@@ -110,17 +89,17 @@ read-tokens-spec =
     (tie.spec
     Inv-loop
     μ-loop
-    none-requires
-    none-requires-2
+    (search needs)
+    (search needs)
     loop-holds
     shared-slice-read-c
     add-i
-    character-requires
+    (search needs)
     grown-requires
-    ends-requires
-    token-requires
-    pushed-requires
-    none-requires-3
+    (search needs)
+    (search needs)
+    (search needs)
+    (search needs)
     loop-less
     loop-again
     loop-less-2

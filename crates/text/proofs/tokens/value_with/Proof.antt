@@ -12,9 +12,6 @@ mul-result c = omega (arith, c .before .pre (c .if1 .taken))
 sub-result : tie.Need-sub-result
 sub-result c = omega (arith, c .before .pre (c .if1 .taken))
 
-cast-result : tie.Need-cast-result
-cast-result c = search needs
-
 add-result : tie.Need-add-result
 add-result c = omega (arith, c .before .pre (c .if1 .taken))
 
@@ -27,4 +24,4 @@ unfolding valueWith
 returns-2 c = rw (c .if1 .left)
 
 pub value-with-spec : {M : Type 1} → statement M
-value-with-spec = tie.close (tie.spec mul-result sub-result cast-result add-result returns returns-2)
+value-with-spec = tie.close (tie.spec mul-result sub-result (search needs) add-result returns returns-2)

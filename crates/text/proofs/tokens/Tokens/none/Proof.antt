@@ -4,11 +4,8 @@ use borrow.Author.Needs.{needs}
 use Rattle.text.proofs.tokens.Tokens.none.Statement.{statement}
 use Rattle.text.proofs.tokens.Tokens.none.Tie as tie
 
-none-requires : tie.Need-none-requires
-none-requires c κs = search needs
-
 returns : tie.Need-returns
 returns c = rw (c .none .ensures)
 
 pub none-spec : {M : Type 1} → statement M
-none-spec = tie.close (tie.spec none-requires returns)
+none-spec = tie.close (tie.spec (search needs) returns)

@@ -11,18 +11,9 @@ returns : tie.Need-returns
 unfolding pushed
 returns c = search tests
 
-mul-at : tie.Need-mul-at
-mul-at c = search needs
-
-array-set-from-at : tie.Need-array-set-from-at
-array-set-from-at c = search needs
-
-add-t6 : tie.Need-add-t6
-add-t6 c = search needs
-
 returns-2 : tie.Need-returns-2
 unfolding pushed
 returns-2 c = rw add-one (search tests)
 
 pub pushed-spec : {M : Type 1} → statement M
-pushed-spec = tie.close (tie.spec returns mul-at array-set-from-at add-t6 returns-2)
+pushed-spec = tie.close (tie.spec returns (search needs) (search needs) (search needs) returns-2)

@@ -6,22 +6,13 @@ use Rattle.text.specs.Code.{tokenAt}
 use Rattle.text.proofs.tokens.Tokens.token.Statement.{statement}
 use Rattle.text.proofs.tokens.Tokens.token.Tie as tie
 
-none-requires : tie.Need-none-requires
-none-requires c κs = search needs
-
 returns : tie.Need-returns
 unfolding tokenAt
 returns c = rw (c .none .ensures) (search tests)
-
-mul-result : tie.Need-mul-result
-mul-result c = search needs
-
-array-copy-out-result : tie.Need-array-copy-out-result
-array-copy-out-result c = search needs
 
 returns-2 : tie.Need-returns-2
 unfolding tokenAt
 returns-2 c = search tests
 
 pub token-spec : {M : Type 1} → statement M
-token-spec = tie.close (tie.spec none-requires returns mul-result array-copy-out-result returns-2)
+token-spec = tie.close (tie.spec (search needs) returns (search needs) (search needs) returns-2)

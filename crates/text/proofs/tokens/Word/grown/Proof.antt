@@ -11,15 +11,6 @@ returns : tie.Need-returns
 unfolding grown
 returns c = rw (eq-eqb _ _ (c .if1 .taken))
 
-is-digit-requires : tie.Need-is-digit-requires
-is-digit-requires c κs = search needs
-
-add-t7 : tie.Need-add-t7
-add-t7 c = search needs
-
-key-with-requires : tie.Need-key-with-requires
-key-with-requires c κs = search needs
-
 value-with-requires : tie.Need-value-with-requires
 value-with-requires c κs =
     let d = c .before .before .before .before in
@@ -36,4 +27,4 @@ returns-2 c =
 pub grown-spec : {M : Type 1} → statement M
 grown-spec =
     tie.close
-    (tie.spec returns is-digit-requires add-t7 key-with-requires value-with-requires returns-2)
+    (tie.spec returns (search needs) (search needs) (search needs) value-with-requires returns-2)
