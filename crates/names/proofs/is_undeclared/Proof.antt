@@ -16,6 +16,6 @@ is-undeclared-spec =
     (tie.spec
     (search needs)
     (search needs)
-    (search needs)
-    (search needs)
+    (λ c. search needs)
+    (λ c. search needs)
     returns)

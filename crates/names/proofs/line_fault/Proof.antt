@@ -70,7 +70,7 @@ line-fault-spec =
     returns-2
     (search needs)
     returns-3
-    (search needs)
+    (λ c. search needs)
     returns-4
     (search needs)
     returns-5

@@ -44,7 +44,7 @@ pub emit-line-spec : {M : Type 1} → statement M
 emit-line-spec =
     tie.close
     (tie.spec
-    (search needs)
+    (λ c. search needs)
     (search needs)
     (search needs)
     (search needs)

@@ -13,7 +13,7 @@ resolve-spec =
     tie.close
     (tie.spec
     (search needs)
-    (search needs)
-    (search needs)
+    (λ c. search needs)
+    (λ c. search needs)
     (search needs)
     returns)

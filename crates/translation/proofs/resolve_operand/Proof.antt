@@ -27,6 +27,6 @@ resolve-operand-spec =
     cast-number-of
     (search needs)
     (search needs)
-    (search needs)
+    (λ c. search needs)
     returns-2
     returns-3)
