@@ -26,7 +26,7 @@ use Rattle.machine.specs.declared.Motion.{Motion}
 use Rattle.events.specs.declared.Record.{Record}
 use Rattle.machine.specs.declared.Turned.{Turned}
 use Rattle.machine.specs.Turn.{noHandler, withHandler, onward, nothing, recorded, turned, stored, called, flagged, failed, turn}
-use Rattle.machine.specs.Code.{Acted, Ready, acts, moving, changed, joined, turnBy}
+use Rattle.machine.specs.Code.{Acted, Ready, acts, moving, changed, joined, whole, turnBy}
 
 -- A store past the last variable changes nothing.
 pub stored-out : (vars : List ℤ) (v : ℕ) (z : ℤ) → length vars ≡ 64 → 64 ≤ v → vars ≡ stored vars v z
@@ -154,15 +154,15 @@ ready vars kept hold s {does} p =
     record { calls = λ cell q. subst (λ (x : Effect). Sound vars kept x) q known; returns = λ q. subst (λ (x : Effect). Sound vars kept x) q known }
 
 -- A turn: the events have acted, and the effect of the statement comes to the variables and to all else.
-pub turned-by : (s : List ℕ) (first last cells : ℕ) (cell : Cell) (m : Machine) (ctl : Control) {vars vars′ : List ℤ} {motion : Motion} {does : Effect} {c : Control} {w : Record} {stops : Bool} {m′ : Machine}
+pub turned-by : (s : List ℕ) (first last cells : ℕ) (cell : Cell) (m : Machine) (ctl : Control) {vars vars′ : List ℤ} {motion : Motion} {does : Effect} {c : Control} {w : Record} {stops : Bool} {d : Turned}
     → Acted s first last (m .variables) (m .motion) vars motion → does ≡ effect same same vars (m .places .kept) (m .hold) (statementOf cell) → vars′ ≡ changed does vars
     → joined vars ctl ≡ moving vars motion m
-    → ((vs : List ℤ) → joined (changed does vs) c ≡ turn cells does (joined vs ctl) .machine) → m′ ≡ joined vars′ c
-    → ((n : ℕ) (x : Machine) → w ≡ turn n does x .wrote) → ((n : ℕ) (vs : List ℤ) → stops ≡ turn n does (joined vs ctl) .stops)
-    → record { machine = m′; wrote = w; stops = stops } ≡ turnBy cells cell (acts s first (last - first) m)
+    → ((vs : List ℤ) → joined (changed does vs) c ≡ turn cells does (joined vs ctl) .machine)
+    → ((n : ℕ) (x : Machine) → w ≡ turn n does x .wrote) → ((n : ℕ) (vs : List ℤ) → stops ≡ turn n does (joined vs ctl) .stops) → d ≡ whole vars′ c w stops
+    → d ≡ turnBy cells cell (acts s first (last - first) m)
 unfolding turnBy
-turned-by s first last cells cell m ctl {vars} {does = does} a ed ev ej ec em ew es =
-    rw (← a .each m, ← ed, ← ej) (same-parts (em ∙ rw ev (ec vars)) (ew cells (joined vars ctl)) (es cells vars))
+turned-by s first last cells cell m ctl {vars} {does = does} a ed ev ej ec ew es ew′ =
+    rw (← a .each m, ← ed, ← ej) (ew′ ∙ same-parts (rw ev (ec vars)) (ew cells (joined vars ctl)) (es cells vars))
   where
     same-parts : {m′ : Machine} {w : Record} {b : Bool} {t : Turned} → m′ ≡ t .machine → w ≡ t .wrote → b ≡ t .stops → record { machine = m′; wrote = w; stops = b } ≡ t
     same-parts p q r = rw (p, q, r)

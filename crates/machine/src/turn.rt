@@ -8,7 +8,7 @@ ghost use lib.ListN.{length, set};
 ghost use Rattle.effects.specs.declared.Effect.the-variants.{Fails};
 ghost use Rattle.machine.specs.Turn.{at, withHandler, onward, stored, movingBit, inMotion, slew, called, returned, held, failed, turn};
 ghost use Rattle.events.specs.Events.{badEvents, eventCount};
-ghost use Rattle.machine.specs.Code.{Inputs, Ready, acts, changed, joined, turnBy};
+ghost use Rattle.machine.specs.Code.{Inputs, Ready, acts, changed, joined, whole, turnBy};
 use crate::Control;
 use crate::Machine;
 use crate::Motion;
@@ -21,6 +21,7 @@ use crate::happening::reach;
 use crate::recording::recorded;
 use effects::Effect;
 use effects::doing::effect;
+use events::Record;
 use program::Cell;
 use program::Variable;
 
@@ -225,19 +226,23 @@ impl Control {
         }
     }
 
-    // With the variables.
-    fn joined(self, variables: [i32; 64]) -> Machine
-        ensures { λ r. ⌜ r ≡ joined variables self ⌝ }
+    // What the turn came to, with the variables, the record, and whether the run stops.
+    fn turned(self, variables: [i32; 64], wrote: Record, stops: bool) -> Turned
+        ensures { λ r. ⌜ r ≡ whole variables self wrote stops ⌝ }
     {
         let places = self.places;
         let motion = self.motion;
-        Machine {
-            variables: variables,
-            next: self.next,
-            places: places,
-            handler: self.handler,
-            hold: self.hold,
-            motion: motion,
+        Turned {
+            machine: Machine {
+                variables: variables,
+                next: self.next,
+                places: places,
+                handler: self.handler,
+                hold: self.hold,
+                motion: motion,
+            },
+            wrote: wrote,
+            stops: stops,
         }
     }
 }
@@ -268,10 +273,8 @@ impl Machine {
             hold: self.hold,
             motion: motion,
         };
-        Turned {
-            machine: before.after(does, cells).joined(variables),
-            wrote: recorded(does),
-            stops: before.stops(does),
-        }
+        let wrote = recorded(does);
+        let stops = before.stops(does);
+        before.after(does, cells).turned(variables, wrote, stops)
     }
 }

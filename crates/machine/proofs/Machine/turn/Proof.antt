@@ -14,16 +14,16 @@ change-requires : tie.Need-change-requires
 change-requires c κs = let n : length (c .before .before .before .before .before .before .before .before .args .self .variables) ≡ 64 = search needs in c .before .before .before .reach .ensures .size ∙ n
 
 after-requires : tie.Need-after-requires
-after-requires c κs = let st = c .before .before .before .before .before .before .before .before .before in (st .pre .0, ready _ (st .args .self .places .kept) (st .args .self .hold) _ (c .before .before .effect .ensures))
+after-requires c κs = let st = c .before .before .before .before .before .before .before .before .before .before .before in (st .pre .0, ready _ (st .args .self .places .kept) (st .args .self .hold) _ (c .before .before .before .before .effect .ensures))
 
 returns : tie.Need-returns
 returns c =
-    let j = c .before .before in
-    let ch = j .before .before in
+    let af = c .before in
+    let ch = af .before .before .before in
     let ef = ch .before .before in
     let re = ef .before .before in
     let st = re .before .before .before .before .before in
-    turned-by _ _ _ _ _ (st .args .self) _ (re .reach .ensures) (ef .effect .ensures) (ch .change .ensures) refl (j .before .after .ensures) (j .joined .ensures) (c .before .recorded .ensures) (c .stops .ensures)
+    turned-by _ _ _ _ _ (st .args .self) _ (re .reach .ensures) (ef .effect .ensures) (ch .change .ensures) refl (af .after .ensures) (af .before .before .recorded .ensures) (af .before .stops .ensures) (c .turned .ensures)
 
 pub turn-spec : {M : Type 1} → statement M
 turn-spec =
@@ -33,8 +33,8 @@ turn-spec =
     slice-aggregate-effect
     (search needs)
     change-requires
+    (search needs)
+    (search needs)
     after-requires
-    (search needs)
-    (search needs)
     (search needs)
     returns)
