@@ -1,0 +1,18 @@
+-- `make_part` is safe and ends.
+-- Assumes nothing.
+use Prim.Native.Nat.{_-_}
+use borrow.Author.Needs.{needs}
+use Rattle.files.proofs.make_part.Statement.{statement}
+use Rattle.files.proofs.make_part.Tie as tie
+
+abbrev Inv-loop : tie.InvT-loop
+Inv-loop path name₀ k₀ name k = Unit {0}
+
+abbrev μ-loop : tie.MeasureT-loop
+μ-loop path name₀ k₀ name k = 10 - k
+
+pub make-part-spec : {M : Type 1} → statement M
+make-part-spec =
+    tie.close
+    (tie.spec Inv-loop μ-loop (search needs) (search needs) (search needs) (search needs) (search needs) (search needs) (search needs)
+    (search needs) (search needs) (search needs))
