@@ -4,6 +4,7 @@
 // and all of them where it refuses, are counted as `changed` where they are no longer that.
 use crate::described;
 use crate::input;
+use crate::words;
 use writing::Line;
 
 const ROOM: usize = 65536;
@@ -32,9 +33,9 @@ fn translate(text: &[u8], room: usize) -> Line {
 }
 
 fn translated(answer: bench::Translated) -> Line {
-    let mut line = described::named(Line::empty(), described::NUMBER, answer.number as u64);
-    line = described::named(line, described::LINE, answer.line as u64);
-    described::named(line, described::LENGTH, answer.length as u64)
+    let mut line = described::named(Line::empty(), words::NUMBER, answer.number as u64);
+    line = described::named(line, words::LINE, answer.line as u64);
+    described::named(line, words::LENGTH, answer.length as u64)
 }
 
 // The bytes of a text's image.
@@ -47,17 +48,11 @@ fn image(text: &[u8]) -> Line {
 // Where an image is refused, so is its run.
 fn check(image: &[u8], events: &[u8]) -> Line {
     let answer = bench::check(image);
-    let line = described::named(Line::empty(), described::NUMBER, answer.number as u64);
+    let line = described::named(Line::empty(), words::NUMBER, answer.number as u64);
     if answer.number == 0 {
         return line;
     }
-    ran(
-        described::word(line, described::RUN),
-        image,
-        events,
-        1,
-        ROOM,
-    )
+    ran(described::word(line, words::RUN), image, events, 1, ROOM)
 }
 
 // The run of a text's image.

@@ -2,6 +2,7 @@
 // handler that is none, a variable with the value that it has at the start; where the run is refused, all that is 0. So two runs that differ
 // have different lines. A place stands as `p0=3`, a variable as `ER=104`, a user variable by its number as `32=7`, and a record as
 // `[turn kind number value]`.
+use crate::words;
 use bench::Ran;
 use bench::State;
 use events::Event;
@@ -18,48 +19,6 @@ const SHOWN: usize = 16;
 // A buffer that is lent holds this byte throughout before the call.
 pub const FILLER: u8 = 0xAA;
 
-// The words of an answer, by number, each in its column; and behind them the names of the paper's variables, of which there is no variable 0.
-const COLUMN: usize = 8;
-
-const WORDS: [u8; 304] =
-    *b"number  line    length  run     refused index   reason  turns   next    kept    handler hold    motion  value   records zeros   changed ?       R1      R2      R3      R4      P       A       D       VI      VM      ER      O1      O2      O3      MV      EF      I1      I2      I3      I4      IN      ";
-
-pub const NUMBER: usize = 0;
-
-pub const LINE: usize = 1;
-
-pub const LENGTH: usize = 2;
-
-pub const RUN: usize = 3;
-
-const REFUSED: usize = 4;
-
-const INDEX: usize = 5;
-
-const REASON: usize = 6;
-
-const TURNS: usize = 7;
-
-const NEXT: usize = 8;
-
-const KEPT: usize = 9;
-
-const HANDLER: usize = 10;
-
-const HOLD: usize = 11;
-
-const MOTION: usize = 12;
-
-const VALUE: usize = 13;
-
-const RECORDS: usize = 14;
-
-const ZEROS: usize = 15;
-
-const CHANGED: usize = 16;
-
-const VARIABLE: usize = 17;
-
 // A space, unless the line is empty.
 fn gap(line: Line) -> Line {
     if line.held == 0 {
@@ -70,8 +29,7 @@ fn gap(line: Line) -> Line {
 
 // A word, behind a space.
 pub fn word(line: Line, name: usize) -> Line {
-    let words = WORDS;
-    gap(line).bytes(parts::word(parts::back(&words, name % 64 * COLUMN)))
+    words::put(gap(line), name)
 }
 
 // A word and a number.
@@ -98,10 +56,10 @@ pub fn hex(values: &[u8]) -> Line {
 
 pub fn ran(mut line: Line, ran: Ran, records: &[u8]) -> Line {
     let end = ran.state;
-    line = part(line, REFUSED, ran.number as u64, 0);
-    line = part(line, INDEX, ran.index as u64, 0);
-    line = part(line, REASON, ran.reason as u64, 0);
-    line = part(line, TURNS, ran.turns, 0);
+    line = part(line, words::REFUSED, ran.number as u64, 0);
+    line = part(line, words::INDEX, ran.index as u64, 0);
+    line = part(line, words::REASON, ran.reason as u64, 0);
+    line = part(line, words::TURNS, ran.turns, 0);
     line = state(line, end, ran.number != 0);
     recorded(line, records, ran.records)
 }
@@ -109,8 +67,8 @@ pub fn ran(mut line: Line, ran: Ran, records: &[u8]) -> Line {
 fn state(mut line: Line, state: State, refused: bool) -> Line {
     let kept = state.places;
     let values = state.variables;
-    line = part(line, NEXT, state.next as u64, 0);
-    line = part(line, KEPT, state.kept as u64, 0);
+    line = part(line, words::NEXT, state.next as u64, 0);
+    line = part(line, words::KEPT, state.kept as u64, 0);
     line = places(line, kept);
     line = handler(line, state.handler as u64, refused);
     line = motion(line, state.hold, state.motion, state.value);
@@ -134,19 +92,19 @@ fn place(mut line: Line, i: usize, place: u16) -> Line {
 
 fn handler(line: Line, handler: u64, refused: bool) -> Line {
     if refused {
-        return part(line, HANDLER, handler, 0);
+        return part(line, words::HANDLER, handler, 0);
     }
-    part(line, HANDLER, handler, NO_HANDLER)
+    part(line, words::HANDLER, handler, NO_HANDLER)
 }
 
 // The hold left, and the motion with its target or velocity.
 fn motion(mut line: Line, hold: u32, motion: u8, value: i32) -> Line {
-    line = part(line, HOLD, hold as u64, 0);
-    line = part(line, MOTION, motion as u64, 0);
+    line = part(line, words::HOLD, hold as u64, 0);
+    line = part(line, words::MOTION, motion as u64, 0);
     if value == 0 {
         return line;
     }
-    word(line, VALUE).byte(b' ').signed(value)
+    word(line, words::VALUE).byte(b' ').signed(value)
 }
 
 fn variables(mut line: Line, values: [i32; 64], refused: bool) -> Line {
@@ -167,7 +125,7 @@ fn name(line: Line, variable: usize) -> Line {
     if FIXED_END <= variable {
         return gap(line).number(variable as u64);
     }
-    word(line, VARIABLE + variable)
+    word(line, words::VARIABLE + variable)
 }
 
 // What a variable holds at the start, where no VA line says otherwise. Variables 3; Refusals 23.
@@ -186,7 +144,7 @@ fn at_start(variable: usize, refused: bool) -> i32 {
 
 // The first records, and what else of the buffer is changed.
 fn recorded(mut line: Line, records: &[u8], count: usize) -> Line {
-    line = part(line, RECORDS, count as u64, 0);
+    line = part(line, words::RECORDS, count as u64, 0);
     for i in 0..SHOWN {
         if i < count {
             line = record(line, events::script::event_at(records, i));
@@ -204,12 +162,12 @@ fn record(mut line: Line, record: Event) -> Line {
     line = line.byte(b' ').number(record.kind as u64);
     line = line.byte(b' ').number(record.number as u64);
     line = line.byte(b' ').signed(record.value);
-    part(line, ZEROS, record.zeros as u64, 0).byte(b']')
+    part(line, words::ZEROS, record.zeros as u64, 0).byte(b']')
 }
 
 // How many bytes are no longer the filler, where there are any.
 pub fn changed(line: Line, values: &[u8]) -> Line {
-    part(line, CHANGED, count(values), 0)
+    part(line, words::CHANGED, count(values), 0)
 }
 
 fn count(values: &[u8]) -> u64 {

@@ -1,6 +1,7 @@
 // The lines of the input, and the texts, images and scripts of events that they make.
 //
 // What is made is put on a page. A page that is full is broken, and stays so: something did not fit, or a line said something wrong.
+use crate::words;
 use scripts::BAD_FORM;
 use scripts::BIG_NUMBER;
 use writing::Line;
@@ -10,14 +11,7 @@ ghost use lib.ListN.{length};
 
 pub const BROKEN: usize = writing::PAGE;
 
-// The words that a line starts with, by number, each in its column.
-const COLUMN: usize = 11;
-
-const WORDS: [u8; 176] =
-    *b"#          case       block      translate  image      check      run        gives      from       line       part       bytes      at         translated event      raw        ";
-
-const COUNT: usize = 16;
-
+// The words that a line starts with, by number.
 const SILENT: usize = 0;
 
 const CASE: usize = 1;
@@ -93,21 +87,11 @@ pub fn rest<'a>(line: &'a [u8]) -> &'a [u8] {
 
 // The number of a line's first word. It is that of a comment where there is no word, and greater than all where the word is none of these.
 pub fn kind(line: &[u8]) -> usize {
-    let words = WORDS;
     let word = parts::word(line);
     if word.len() == 0 {
         return SILENT;
     }
-    index(&words, word)
-}
-
-fn index(words: &[u8], word: &[u8]) -> usize {
-    for k in 0..COUNT {
-        if parts::same(parts::word(parts::back(words, k * COLUMN)), word) {
-            return k;
-        }
-    }
-    COUNT
+    words::kind(word)
 }
 
 pub fn is_case(line: &[u8]) -> bool {
@@ -227,7 +211,7 @@ fn add_times(page: &mut Page, held: usize, line: &[u8], times: u64, of_events: b
         if of_events {
             return repeat(page, held, said(kind, rest(line)), times);
         }
-        return unless(kind == COUNT, held);
+        return unless(kind == words::KINDS, held);
     }
     if of_events {
         return held;

@@ -3,6 +3,7 @@
 mod answers;
 mod described;
 mod input;
+mod words;
 
 use libc::STDIN_FILENO;
 use libc::STDOUT_FILENO;
@@ -38,16 +39,20 @@ fn write(line: Line) {
     io::write_all(STDOUT_FILENO, writing::held_in(&bytes, line.held));
 }
 
+// Writes what is said of a case.
+fn say(name: &[u8], said: usize) {
+    io::write_all(STDOUT_FILENO, name);
+    write(words::put(Line::empty(), said).end());
+}
+
 // Writes the line of a case, and answers whether it agrees. What was got is told where it does not.
 fn told(name: &[u8], got: Line, wanted: &[u8]) -> bool {
     let bytes = got.bytes;
-    let agrees = parts::same(writing::held_in(&bytes, got.held), wanted);
-    io::write_all(STDOUT_FILENO, name);
-    if agrees {
-        io::write_all(STDOUT_FILENO, b": as expected\n");
+    if parts::same(writing::held_in(&bytes, got.held), wanted) {
+        say(name, words::AS_EXPECTED);
         return true;
     }
-    io::write_all(STDOUT_FILENO, b": NOT as expected, got: ");
+    say(name, words::NOT_AS_EXPECTED);
     write(got.end());
     false
 }
@@ -59,8 +64,7 @@ fn tried(input: &[u8], head: input::Span) -> bool {
     let gives = input::place_or_end(input, call.next);
     let wanted = input::line(input, gives);
     if !input::is_answer(wanted) | !input::is_end(input, gives.next) {
-        io::write_all(STDOUT_FILENO, name);
-        io::write_all(STDOUT_FILENO, b": NOT tried\n");
+        say(name, words::NOT_TRIED);
         return false;
     }
     let got = answered(input, head.next, input::line(input, call));
@@ -105,6 +109,6 @@ fn main() {
     let size = io::read_full(STDIN_FILENO, &mut room);
     let count = tally(parts::front(&room, size));
     let mut line = Line::empty().number(count.agreeing);
-    line = line.bytes(b" of ").number(count.all);
-    write(line.bytes(b" agree\n"));
+    line = words::put(line, words::OF).number(count.all);
+    write(words::put(line, words::AGREE).end());
 }

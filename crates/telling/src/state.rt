@@ -51,11 +51,17 @@ fn outputs(mut line: Line, image: &[u8], variables: [i32; 64]) -> Line {
     line.end()
 }
 
-// A variable whose value is not the one at the start.
+// A variable whose value is not the one at the start; nothing where it is.
 fn change(image: &[u8], number: u8, now: i32, start: i32) -> Line {
-    let mut line = crate::part(Line::empty(), words::CHANGED);
-    line = crate::part(value(line, image, number, now), words::START);
-    line.signed(start).byte(b')').end()
+    let mut line = Line::empty();
+    if now == start {
+        return line;
+    }
+    line = crate::part(line, words::CHANGED);
+    line = value(line, image, number, now);
+    line = crate::part(line, words::START);
+    line = line.signed(start);
+    line.byte(b')').end()
 }
 
 // Every such variable.
@@ -68,9 +74,7 @@ fn put_changes(
 ) -> usize {
     let mut held = before;
     for k in 0..VARIABLES {
-        if now[k] != start[k] {
-            held = change(image, k as u8, now[k], start[k]).onto(page, held);
-        }
+        held = change(image, k as u8, now[k], start[k]).onto(page, held);
     }
     held
 }

@@ -1,18 +1,18 @@
--- `index` is safe and ends.
+-- `make_part` is safe and ends.
 -- Assumes nothing.
 use Prim.Native.Nat.{_-_}
 use borrow.Author.Needs.{needs}
-use Rattle.compared.proofs.input.index.Statement.{statement}
-use Rattle.compared.proofs.input.index.Tie as tie
+use Rattle.files.proofs.make_part.Statement.{statement}
+use Rattle.files.proofs.make_part.Tie as tie
 
 abbrev Inv-loop : tie.InvT-loop
-Inv-loop words word k₀ k = Unit {0}
+Inv-loop path name₀ k₀ name k = Unit {0}
 
 abbrev μ-loop : tie.MeasureT-loop
-μ-loop words word k₀ k = 16 - k
+μ-loop path name₀ k₀ name k = 10 - k
 
-pub index-spec : {M : Type 1} → statement M
-index-spec =
+pub make-part-spec : {M : Type 1} → statement M
+make-part-spec =
     tie.close
     (tie.spec Inv-loop μ-loop (search needs) (search needs) (search needs) (search needs) (search needs) (search needs) (search needs)
     (search needs) (search needs) (search needs))
