@@ -9,7 +9,7 @@ use Rattle.machine.specs.declared.Machine.{Machine}
 use Rattle.events.specs.declared.Event.{Event}
 use Rattle.machine.specs.Turn.{turn}
 use Rattle.events.specs.Events.{recordBytes}
-use Rattle.machine.specs.Run.{PlainTrace, Course, ends, plain, courseOf, reach, traceFrom, runFrom}
+use Rattle.machine.specs.Run.{PlainTrace, ends, plain, courseOf, reach, traceFrom, runFrom}
 use Rattle.machine.proofs.Traces.{ended, after, course-ends, course-before, trace-turn, step}
 
 -- Before the end and with turns left, the events of the turn act, then just one statement; the run goes on from there, or stops.

@@ -1,6 +1,6 @@
 -- The machine and its variables: a store past the last variable; what the effect of a statement tells of the machine that it is applied to.
 -- Assumes nothing.
-use mathlib.Core.Path.{_≡_, refl, sym, ap, subst, _∙_}
+use mathlib.Core.Path.{_≡_, refl, sym, subst, _∙_}
 use mathlib.Core.Bool.{Bool, true, false, cond, not, _&&_, and-eq-true-iff}
 use mathlib.Core.List.{List, [], _∷_}
 use Prim.Native.Nat.{ℕ, _-_, _≤_}
@@ -9,7 +9,7 @@ use borrow.Author.Tests.{ne-eqb, leb-true, le-leb, lt-leb, ltb-true, ltb-false}
 use lib.Dec.{eqb, leb, ltb}
 use lib.IntN.{ℤ, pos}
 use lib.ListN.{length, set}
-use lib.Seq.{set-out, getD-set-other}
+use lib.Seq.{set-out}
 use Rattle.program.specs.declared.Cell.{Cell}
 use Rattle.program.specs.Cells.{same, statementOf}
 use Rattle.program.specs.Statements.{Statement}
@@ -18,7 +18,7 @@ use denote.Enum.Declared.{tagOf}
 use Rattle.effects.specs.declared.Effect.{Effect}
 use Rattle.effects.specs.declared.Effect.the-variants.{Fails, Stores, Passes, Goes, Calls, Returns, Ends, Stays, Holds, Arms, Disarms, Moves, Slews, Prints}
 use Rattle.effects.proofs.Effect.{the-type}
-use Rattle.effects.specs.Effects.{read, effect}
+use Rattle.effects.specs.Effects.{effect}
 use Rattle.effects.proofs.Sound.{Sound, sound}
 use Rattle.machine.specs.declared.Machine.{Machine}
 use Rattle.machine.specs.declared.Control.{Control}

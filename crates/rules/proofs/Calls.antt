@@ -6,7 +6,6 @@ use Prim.Native.Nat.{ℕ, _+_, _≤_, _<_}
 use native.Mathlib.Omega.{arith}
 use borrow.Author.Tests.{lt-ltb, le-ltb, ltb-false}
 use lib.Dec.{ltb}
-use lib.ListN.{set}
 use Rattle.numbers.proofs.Truth.{if-same}
 use Rattle.program.specs.Statements.{Condition, CL}
 use Rattle.effects.specs.declared.Effect.{Effect}

@@ -1,8 +1,8 @@
 -- Good events keep the rules, and leave the next cell.
 -- Assumes nothing.
-use mathlib.Core.Path.{_≡_, refl, _∙_, subst}
+use mathlib.Core.Path.{_≡_, refl, subst}
 use mathlib.Core.Bool.{Bool, false, _&&_, _||_, not}
-use mathlib.Core.List.{List, [], _∷_}
+use mathlib.Core.List.{List}
 use mathlib.Core.Logic.{inl, ⊎-elim}
 use Prim.Native.Nat.{ℕ, _≤_}
 use native.Mathlib.Omega.{arith}
@@ -18,9 +18,8 @@ use Rattle.machine.specs.declared.Motion.the-variants.{Still, To, Slewing}
 use Rattle.machine.specs.Turn.{withVariables, inMotion}
 use Rattle.events.specs.Events.{goodEvent, badEvents, eventAt, eventCount, events}
 use Rattle.machine.specs.Happens.{arrivedBy, happens}
-use Rattle.machine.specs.Run.{Reached, reach}
 use Rattle.events.proofs.Scripts.{good-events}
-use Rattle.numbers.proofs.Truth.{true-is, both, either, chosen}
+use Rattle.numbers.proofs.Truth.{true-is, both, either}
 use Rattle.numbers.proofs.Tests.{all-listed}
 use Rattle.rules.specs.Rules.{Ruled, goodMotion}
 use Rattle.rules.proofs.Parts.{registers-of, way-of, together, registers-set, registers-move, registers-input}

@@ -22,7 +22,7 @@ use Rattle.machine.specs.declared.Machine.{Machine}
 use Rattle.machine.specs.declared.Motion.{Motion}
 use Rattle.machine.specs.declared.Motion.the-variants.{To}
 use Rattle.machine.specs.declared.Turned.{Turned}
-use Rattle.machine.specs.Turn.{noHandler, machine, stored, keep, release, lastPlace, inMotion, slew, called, returned, held, flagged, failed, turn}
+use Rattle.machine.specs.Turn.{noHandler, machine, stored, keep, lastPlace, inMotion, slew, called, returned, held, flagged, failed, turn}
 use Rattle.rules.specs.Rules.{Ruled, goodMotion}
 use Rattle.rules.specs.Good.{Good, writable}
 use Rattle.rules.proofs.Values.{errorNumber, mayHold}

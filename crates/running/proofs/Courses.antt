@@ -14,7 +14,7 @@ use Rattle.machine.specs.declared.Machine.{Machine}
 use Rattle.machine.specs.declared.Turned.{Turned}
 use Rattle.machine.specs.Turn.{startMachine}
 use Rattle.events.specs.Events.{eventCount, recordBytes}
-use Rattle.machine.specs.Run.{PlainTrace, Course, plain, before, ends, courseOf, over}
+use Rattle.machine.specs.Run.{Course, plain, before, ends, courseOf, over}
 use Rattle.machine.specs.Code.{Inputs}
 use Rattle.machine.proofs.Inputs.{inputs-start}
 use Rattle.events.proofs.Written.{record-most}

@@ -9,7 +9,7 @@ use Rattle.numbers.specs.Tests.{eqList}
 use Rattle.program.specs.Names.{Name, twoCharacters, userName}
 use Rattle.program.specs.Statements as Said
 use Rattle.program.proofs.Statements.{Refers}
-use Rattle.program.specs.Statements.{Literal, Variable, Operator, Comparison, Statement, operands, writes, targets}
+use Rattle.program.specs.Statements.{Literal, Variable, Operator, Comparison, Statement}
 use Rattle.text.specs.Tokens as Paper
 use Rattle.text.specs.Forms as Form
 use Rattle.text.specs.Forms.{Line, Blank, Label, Declared, Acts, took, literal, variable, operand, variableName, operatorMeant, comparisonMeant, Parts, naming, writing, onLeft, operating, comparing, onRight, starting, Slot, Is, New, Target, Written, Left, Right, Start, Operating, Comparing, put, word, sign, takes, fill}

@@ -1,6 +1,6 @@
 -- `Control::failed` meets its contract: the tests come in the order of specs/.
 -- Assumes nothing.
-use mathlib.Core.Path.{_≡_, ap, _∙_}
+use mathlib.Core.Path.{ap, _∙_}
 use mathlib.Core.List.{[]}
 use borrow.Author.Tests.{eq-eqb, ne-eqb, lt-ltb, le-ltb}
 use Rattle.effects.specs.declared.Effect.the-variants.{Fails}

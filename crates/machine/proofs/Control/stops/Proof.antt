@@ -1,6 +1,5 @@
 -- `Control::stops` meets its contract: only an error stops a run.
 -- Assumes nothing.
-use mathlib.Core.Path.{_∙_, refl}
 use Rattle.machine.specs.Turn.{noHandler, turn}
 use Rattle.machine.specs.Code.{joined}
 use Rattle.machine.proofs.Turns.{error-stops, runs-on}
