@@ -134,11 +134,11 @@ pub fn visit(image: &[u8], events: &[u8], budget: u32, visits: &mut [u8]) -> usi
         }
         let at = PLACE_BYTES * (taken as usize);
         numbers::write(visits, at, PLACE_BYTES, machine.next as u64);
-        let left = later(events, taken, event);
+        let rest = later(events, taken, event);
         let cell = image::cell_at(image, machine.next);
-        let turned = machine.turn(cell, cells, events, event, left);
+        let turned = machine.turn(cell, cells, events, event, rest);
         machine = turned.machine;
-        event = left;
+        event = rest;
         taken += 1;
         if turned.stops {
             return taken as usize;
