@@ -96,14 +96,23 @@ fn filled(b: u8, block: usize) -> u8 {
     b
 }
 
+// A byte of each table; one function indexes it, once.
+fn of_block(i: usize) -> u8 {
+    BLOCK[i % BLOCK_SIZE]
+}
+
+fn of_ninth(kind: usize, i: usize) -> u8 {
+    NINTHS[kind % 4 * NINTH + i % NINTH]
+}
+
 fn letter(block: usize, i: usize) -> u8 {
     if BEFORE + NINTH <= i {
-        return filled(BLOCK[i % BLOCK_SIZE], block);
+        return filled(of_block(i), block);
     }
     if BEFORE <= i {
-        return filled(NINTHS[block % 4 * NINTH + (i - BEFORE)], block);
+        return filled(of_ninth(block, i - BEFORE), block);
     }
-    filled(BLOCK[i % BLOCK_SIZE], block)
+    filled(of_block(i), block)
 }
 
 // The largest program.
