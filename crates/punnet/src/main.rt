@@ -1,7 +1,7 @@
 // The bench as a tool on files: programs are tried, translated, checked and run. `punnet help` tells how.
 mod commands;
-mod events;
 mod images;
+mod scripted;
 mod texts;
 
 use commands::ACCEPTED;
@@ -55,7 +55,7 @@ fn work(command: u32, a: &[u8], b: &[u8], c: &[u8], d: &[u8]) -> u8 {
         TRANSLATE => texts::translate_command(a, b),
         CHECK => images::check_command(a),
         RUN => images::run_command(a, b, c, d),
-        EVENTS => events::events_command(a, b),
+        EVENTS => scripted::events_command(a, b),
         WORDS => commands::all_words(),
         _ => commands::help(),
     }
