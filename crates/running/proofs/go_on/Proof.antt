@@ -32,7 +32,7 @@ turn-requires c κs =
     let l = c .before .before .before .before .before in
     let p = l .before .before .before .before .before .pre in
     let due = c .before .later .ensures in
-    (omega (arith, c .before .before .before .if1 .left), l .loop .inv .inputs, p .1, (due .order, due .within), few-events _ (p .0))
+    (omega (arith, c .before .before .before .if1 .left), l .loop .inv .inputs, p .1, (omega (arith, due .order), omega (arith, due .order, due .within)), few-events _ (p .0))
 
 -- the turn that was taken
 taken : (c : tie.After-turn Inv-loop μ-loop)
