@@ -1,4 +1,5 @@
 // What the commands share: statuses, refusals, and files that are written.
+use crate::files;
 use bench::Ran;
 use libc::STDOUT_FILENO;
 use telling::refusals;

@@ -2,8 +2,9 @@
 use crate::commands;
 use crate::commands::ACCEPTED;
 use crate::commands::TROUBLE;
+use crate::files;
+use crate::given;
 use bench::Ran;
-use files::given;
 use telling::trace;
 
 // check IMAGE

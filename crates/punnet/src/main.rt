@@ -1,12 +1,13 @@
 // The bench as a tool on files: programs are tried, translated, checked and run. `punnet help` tells how.
 mod commands;
+mod files;
+mod given;
 mod images;
 mod scripted;
 mod texts;
 
 use commands::ACCEPTED;
 use commands::REFUSED;
-use files::given;
 
 // Where the status goes, as one digit: a descriptor that no file is opened on.
 const STATUS: i32 = 9;

@@ -2,7 +2,7 @@
 use crate::commands;
 use crate::commands::ACCEPTED;
 use crate::commands::TROUBLE;
-use files::given;
+use crate::given;
 use writing::Line;
 
 // events SCRIPT EVENTS

@@ -1,4 +1,5 @@
 // What a command is given: arguments, and events and turns besides its text or image.
+use crate::files;
 use bench::Ran;
 use telling::refusals;
 
@@ -102,12 +103,12 @@ pub fn events(path: &[u8], file: &mut Room, bytes: &mut [u8; 65536]) -> Given {
     if is_no_file(path) {
         return no_events(0);
     }
-    let contents = crate::read(path, file);
+    let contents = files::read(path, file);
     if contents.failed {
         return no_events(TROUBLE);
     }
     if contents.length == ROOM {
-        crate::complain(path, LONG_FILE);
+        files::complain(path, LONG_FILE);
         return no_events(TROUBLE);
     }
     of_file(path, of_room(file, contents.length), bytes)
@@ -121,7 +122,7 @@ fn of_file(path: &[u8], file: &[u8], bytes: &mut [u8; 65536]) -> Given {
     if script.fault != scripts::NO_FAULT {
         let mut page = writing::page();
         let held = refusals::put_of_script(&mut page, path, file, script.line, script.fault);
-        crate::tell(&page, held);
+        files::tell(&page, held);
         return no_events(REFUSED);
     }
     accepted(path, file, of_buffer(bytes, script.length), true)
@@ -159,7 +160,7 @@ fn refuse(path: &[u8], file: &[u8], is_script: bool, number: u8, index: usize) {
     } else {
         held = refusals::put_of_event(&mut page, path, index, number);
     }
-    crate::tell(&page, held);
+    files::tell(&page, held);
 }
 
 // The answer to a run on these events: of the empty program, for no turns.

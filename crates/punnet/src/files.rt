@@ -1,6 +1,4 @@
 // Files: read into an array, and written whole or not at all. What goes wrong is told.
-pub mod given;
-
 use libc::STDERR_FILENO;
 use telling::refusals;
 use writing::Line;

@@ -2,8 +2,8 @@
 -- Assumes nothing.
 use Prim.Native.Nat.{_-_}
 use borrow.Author.Needs.{needs}
-use Rattle.files.proofs.make_part.Statement.{statement}
-use Rattle.files.proofs.make_part.Tie as tie
+use Rattle.punnet.proofs.files.make_part.Statement.{statement}
+use Rattle.punnet.proofs.files.make_part.Tie as tie
 
 abbrev Inv-loop : tie.InvT-loop
 Inv-loop path name₀ k₀ name k = Unit {0}
