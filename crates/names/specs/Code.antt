@@ -2,10 +2,11 @@
 -- Assumes nothing.
 use mathlib.Core.Path.{_≡_}
 use mathlib.Core.Bool.{Bool, cond, _&&_, _||_, not}
-use mathlib.Core.List.{List, [], _∷_}
-use Prim.Native.Nat.{ℕ, suc, _≤_, _<_}
+use mathlib.Core.List.{List, [], _∷_, map}
+use Prim.Native.Nat.{ℕ, suc, _+_, _≤_, _<_}
 use lib.Dec.{eqb, leb}
-use lib.ListN.{length}
+use lib.ListN.{length, take, drop}
+use lib.Seq.{sets}
 use Rattle.numbers.specs.Bytes.{number}
 use Rattle.numbers.specs.Tests.{anyOf, lowest}
 use Rattle.program.specs.Names.{paperVariable}
@@ -14,12 +15,15 @@ use Rattle.program.specs.Code.{nameOf}
 use Rattle.program.specs.declared.Cell.{Cell}
 use Rattle.program.specs.declared.Operand.{Operand}
 use Rattle.program.specs.declared.Operand.the-variants as O
+use Rattle.text.specs.Lines.{lines}
 use Rattle.text.specs.Forms.{Line}
-use Rattle.text.specs.Faults.{said, firstFault, declaresIt, howMany, makesCell, makesLabel, makesVariable, firstMakes, placeOf, rankOf, unknownVariable, unknownValue}
+use Rattle.text.specs.Code.{Starts}
+use Rattle.text.specs.Faults.{said, faultsFrom, lineFaults, firstFault, declaresIt, howMany, makesCell, makesLabel, makesVariable, firstMakes, placeOf, rankOf, unknownVariable, unknownValue}
 use Rattle.reading.specs.Code.{saidBy, readingOf, aimsAt, inOperand, declaring}
 use Rattle.reading.specs.declared.Reading.{Reading}
 use Rattle.names.specs.declared.Found.{Found}
 use Rattle.names.specs.declared.Counts.{Counts}
+use Rattle.names.specs.declared.Judged.{Judged}
 use Rattle.names.specs.declared.Survey.{Survey}
 
 abbrev pub found : ℕ → ℕ → Found
@@ -119,6 +123,27 @@ faultBy text before n r =
     cond (eqb (r .fault) 0)
     (lowest 6 (repeatedKey before (r .kind) (r .name) ∷ tooManyBy n (r .kind) ∷ unknownCell text (r .cell) ∷ readOnlyKey (r .cell .written) ∷ []))
     (r .fault)
+
+-- A line starts here, or the text has ended; the counts are those of the lines before.
+pub record Reached (s : List ℕ) (n : Counts) (at : ℕ) : Type 0 where
+  pub starts : Starts s at
+  pub near : at ≤ length s + 1
+  pub counts : n ≡ countsOf (said (take at s))
+
+-- The lowest fault of each line from this place on.
+unfoldable pub faultsOn : List ℕ → ℕ → List ℕ
+faultsOn s at = map (lowest 2) (faultsFrom (said s) (said (take at s)) (lines (drop at s)))
+
+-- What judging the line at this place gives: its lowest fault, and the next line with the counts before that.
+pub record JudgedAt (s : List ℕ) (at : ℕ) (r : Judged) : Type 0 where
+  pub fault : faultsOn s at ≡ r .fault ∷ faultsOn s (r .next)
+  pub moves : at < r .next
+  pub reached : Reached s (r .counts) (r .next)
+
+-- So many lines were judged, and their lowest faults stand in the buffer over what that held, as far as there is room.
+pub record AllJudged (s : List ℕ) (r : ℕ) (old new : List ℕ) : Type 0 where
+  pub count : r ≡ length (lineFaults s)
+  pub buffer : new ≡ sets old 0 (lineFaults s)
 
 -- What surveying a text gives: its first fault, and what its lines make where there is none.
 pub record Surveyed (s : List ℕ) (r : Survey) : Type 0 where

@@ -1,10 +1,11 @@
 // Where a name of a text is declared, and the faults that more than one line is needed to see.
 ghost use mathlib.Core.Path.{_≡_};
 ghost use Prim.Native.Nat.{_<_};
+ghost use lib.ListN.{length};
 ghost use Rattle.program.specs.Code.{nameOf};
 ghost use Rattle.text.specs.Faults.{said, unknownVariable, firstFault};
 ghost use Rattle.reading.specs.Code.{declaring};
-ghost use Rattle.names.specs.Code.{FoundAt, DeclaredAs, declaredIn, Surveyed, Keyed, KeyOperand, Below, plus, unknownTarget, unknownWritten, unknownOperand, unknownCell, readOnlyKey, repeatedKey, tooManyBy, counted, faultBy};
+ghost use Rattle.names.specs.Code.{FoundAt, DeclaredAs, declaredIn, Surveyed, Reached, JudgedAt, AllJudged, Keyed, KeyOperand, Below, plus, unknownTarget, unknownWritten, unknownOperand, unknownCell, readOnlyKey, repeatedKey, tooManyBy, counted, faultBy};
 use program::Cell;
 use program::Operand;
 use program::Variable;
@@ -23,6 +24,13 @@ pub struct Counts {
     pub cells: usize,
     pub labels: usize,
     pub variables: usize,
+}
+
+// A line of a text: its lowest fault, what the lines up to it make, and where the next one starts.
+struct Judged {
+    fault: u8,
+    counts: Counts,
+    next: usize,
 }
 
 // The first fault of a text, and what its lines make where it has none.
@@ -238,6 +246,24 @@ fn line_fault(s: &[u8], before: &[u8], counts: Counts, reading: Reading) -> u8
     NO_FAULT
 }
 
+// The line that starts at `at`, behind lines with these counts.
+fn judge_line(s: &[u8], at: usize, counts: Counts) -> Judged
+    requires { ⌜ (at < length (now s)) × Reached (now s) counts at ⌝ }
+    ensures { λ r. ⌜ JudgedAt (now (s .entry)) at r ⌝ }
+{
+    let span = text::line_at(s, at);
+    let end = span.end;
+    let reading = reading::read_line(&s[at..end]);
+    let before = &s[..at];
+    let fault = line_fault(s, before, counts, reading);
+    let with_it = counted(counts, reading.kind);
+    Judged {
+        fault,
+        counts: with_it,
+        next: span.next,
+    }
+}
+
 // The first fault of a text, and its counts where it has none: one pass over its lines.
 pub fn survey_lines(s: &[u8]) -> Survey
     ensures { λ r. ⌜ Surveyed (now (s .entry)) r ⌝ }
@@ -250,22 +276,40 @@ pub fn survey_lines(s: &[u8]) -> Survey
     let mut line: usize = 1;
     let mut at: usize = 0;
     while at < s.len() {
-        let span = text::line_at(s, at);
-        let end = span.end;
-        let reading = reading::read_line(&s[at..end]);
-        let before = &s[..at];
-        let number = line_fault(s, before, counts, reading);
+        let judged = judge_line(s, at, counts);
+        let number = judged.fault;
         if number != NO_FAULT {
             let fault = Fault { number, line };
             return Survey { fault, counts };
         }
-        counts = counted(counts, reading.kind);
+        counts = judged.counts;
         line += 1;
-        at = span.next;
+        at = judged.next;
     }
     let fault = Fault {
         number: NO_FAULT,
         line: 0,
     };
     Survey { fault, counts }
+}
+
+// The lowest fault of each line of a text, 0 for none: a byte a line, to the front of the buffer as far as there is room. How many lines there are is handed back.
+pub fn line_faults(s: &[u8], faults: &mut [u8]) -> usize
+    ensures { λ r. ⌜ AllJudged (now (s .entry)) r (now (faults .entry)) (now (faults .exit)) ⌝ }
+{
+    let mut counts = Counts {
+        cells: 0,
+        labels: 0,
+        variables: 0,
+    };
+    let mut line: usize = 0;
+    let mut at: usize = 0;
+    while at < s.len() {
+        let judged = judge_line(s, at, counts);
+        numbers::write(faults, line, 1, judged.fault as u64);
+        counts = judged.counts;
+        line += 1;
+        at = judged.next;
+    }
+    line
 }

@@ -4,3 +4,4 @@ pub mod Packing
 pub mod Words
 pub mod Signs
 pub mod Filled
+pub mod Faults

@@ -153,6 +153,10 @@ unfoldable pub faultsOf : List ℕ → ℕ → List Bool
 faultsOf text zero = []
 faultsOf text (suc k) = getD (textFaults text) k []
 
+-- Refusals 2 to 9, Refusals 20: the lowest fault of each line of a text, one number a line; 0 where a line has none.
+unfoldable pub lineFaults : List ℕ → List ℕ
+lineFaults text = map (lowest 2) (textFaults text)
+
 abbrev pub fault : ℕ → ℕ → Fault
 fault number line = record { number = number; line = line }
 
