@@ -4,7 +4,6 @@ use Prim.Native.Nat.{_+_, _-_}
 use borrow.Author.Needs.{needs}
 use denote.Ref.{now}
 use lib.ListN.{length}
-use native.Mathlib.Omega.{arith}
 use Rattle.names.proofs.Surveying.{Judging, judging, judge-more, judged-all}
 use Rattle.names.proofs.line_faults.Statement.{statement}
 use Rattle.names.proofs.line_faults.Tie as tie
@@ -18,23 +17,11 @@ abbrev μ-loop : tie.MeasureT-loop
 loop-holds : tie.Need-loop-holds Inv-loop μ-loop
 loop-holds c = let a = c .before .before .args in judging (now (a .s)) (now (a .faults))
 
-judge-line-requires : tie.Need-judge-line-requires Inv-loop μ-loop
-judge-line-requires c κs = (c .loop-test .taken, c .before .loop .inv .reached)
-
-add-line : tie.Need-add-line Inv-loop μ-loop
-add-line c = omega arith
-
-loop-less : tie.Need-loop-less Inv-loop μ-loop
-loop-less c = omega arith
-
 loop-again : tie.Need-loop-again Inv-loop μ-loop
 loop-again c =
     let w = c .before .before .before in
     let j = w .before .before .before in
     judge-more (j .before .before .loop .inv) (j .judge-line .ensures) (w .before .struct-known .given .0 .fits) (w .write .ensures)
-
-same-length : tie.Need-same-length Inv-loop μ-loop
-same-length c = c .before .loop .inv .size
 
 returns : tie.Need-returns Inv-loop μ-loop
 returns c = judged-all (c .before .loop .inv) (c .loop-test .left)
@@ -46,11 +33,11 @@ line-faults-spec =
     Inv-loop
     μ-loop
     loop-holds
-    judge-line-requires
+    (λ c κs. search needs)
     (search needs)
     (search needs)
-    add-line
-    loop-less
+    (search needs)
+    (search needs)
     loop-again
-    same-length
+    (search needs)
     returns)

@@ -1,9 +1,9 @@
 -- `survey_lines` meets its contract. The loop's invariant: what is known at the start of a line.
 -- Assumes nothing.
 use Prim.Native.Nat.{_+_, _-_}
+use borrow.Author.Needs.{needs}
 use denote.Ref.{now}
 use lib.ListN.{length}
-use native.Mathlib.Omega.{arith}
 use Rattle.names.proofs.Surveying.{Surveying, surveying, survey-more, fault-here, fault-none}
 use Rattle.names.proofs.survey_lines.Statement.{statement}
 use Rattle.names.proofs.survey_lines.Tie as tie
@@ -17,17 +17,8 @@ abbrev μ-loop : tie.MeasureT-loop
 loop-holds : tie.Need-loop-holds Inv-loop μ-loop
 loop-holds c = surveying (now (c .before .args .s))
 
-judge-line-requires : tie.Need-judge-line-requires Inv-loop μ-loop
-judge-line-requires c κs = (c .loop-test .taken, c .before .loop .inv .reached)
-
 returns : tie.Need-returns Inv-loop μ-loop
 returns c = let j = c .before in fault-here (j .before .before .loop .inv) (j .judge-line .ensures) (c .if1 .taken)
-
-add-line : tie.Need-add-line Inv-loop μ-loop
-add-line c = omega arith
-
-loop-less : tie.Need-loop-less Inv-loop μ-loop
-loop-less c = omega arith
 
 loop-again : tie.Need-loop-again Inv-loop μ-loop
 loop-again c = let j = c .before .before in survey-more (j .before .before .loop .inv) (j .judge-line .ensures) (c .before .if1 .left)
@@ -42,9 +33,9 @@ survey-lines-spec =
     Inv-loop
     μ-loop
     loop-holds
-    judge-line-requires
+    (λ c κs. search needs)
     returns
-    add-line
-    loop-less
+    (search needs)
+    (search needs)
     loop-again
     returns-2)
