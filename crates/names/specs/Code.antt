@@ -23,7 +23,7 @@ use Rattle.reading.specs.Code.{saidBy, readingOf, aimsAt, inOperand, declaring}
 use Rattle.reading.specs.declared.Reading.{Reading}
 use Rattle.names.specs.declared.Found.{Found}
 use Rattle.names.specs.declared.Counts.{Counts}
-use Rattle.names.specs.declared.Judged.{Judged}
+use Rattle.names.specs.declared.Passed.{Passed}
 use Rattle.names.specs.declared.Survey.{Survey}
 
 abbrev pub found : ℕ → ℕ → Found
@@ -124,21 +124,25 @@ faultBy text before n r =
     (lowest 6 (repeatedKey before (r .kind) (r .name) ∷ tooManyBy n (r .kind) ∷ unknownCell text (r .cell) ∷ readOnlyKey (r .cell .written) ∷ []))
     (r .fault)
 
--- A line starts here, or the text has ended; the counts are those of the lines before.
-pub record Reached (s : List ℕ) (n : Counts) (at : ℕ) : Type 0 where
-  pub starts : Starts s at
-  pub near : at ≤ length s + 1
-  pub counts : n ≡ countsOf (said (take at s))
+-- No line is passed.
+abbrev pub nonePassed : Passed
+nonePassed = record { fault = 0; counts = record { cells = 0; labels = 0; variables = 0 }; next = 0 }
+
+-- Lines of a text are passed: the next one starts here, or the text has ended; the counts are those of the lines before.
+pub record Reached (s : List ℕ) (p : Passed) : Type 0 where
+  pub starts : Starts s (p .next)
+  pub near : p .next ≤ length s + 1
+  pub counts : p .counts ≡ countsOf (said (take (p .next) s))
 
 -- The lowest fault of each line from this place on.
 unfoldable pub faultsOn : List ℕ → ℕ → List ℕ
 faultsOn s at = map (lowest 2) (faultsFrom (said s) (said (take at s)) (lines (drop at s)))
 
--- What judging the line at this place gives: its lowest fault, and the next line with the counts before that.
-pub record JudgedAt (s : List ℕ) (at : ℕ) (r : Judged) : Type 0 where
+-- The line at this place is passed, and this is its lowest fault.
+pub record PassedAt (s : List ℕ) (at : ℕ) (r : Passed) : Type 0 where
   pub fault : faultsOn s at ≡ r .fault ∷ faultsOn s (r .next)
   pub moves : at < r .next
-  pub reached : Reached s (r .counts) (r .next)
+  pub reached : Reached s r
 
 -- So many lines were judged, and their lowest faults stand in the buffer over what that held, as far as there is room.
 pub record AllJudged (s : List ℕ) (r : ℕ) (old new : List ℕ) : Type 0 where

@@ -5,7 +5,7 @@ ghost use lib.ListN.{length};
 ghost use Rattle.program.specs.Code.{nameOf};
 ghost use Rattle.text.specs.Faults.{said, unknownVariable, firstFault};
 ghost use Rattle.reading.specs.Code.{declaring};
-ghost use Rattle.names.specs.Code.{FoundAt, DeclaredAs, declaredIn, Surveyed, Reached, JudgedAt, AllJudged, Keyed, KeyOperand, Below, plus, unknownTarget, unknownWritten, unknownOperand, unknownCell, readOnlyKey, repeatedKey, tooManyBy, counted, faultBy};
+ghost use Rattle.names.specs.Code.{FoundAt, DeclaredAs, declaredIn, Surveyed, nonePassed, Reached, PassedAt, AllJudged, Keyed, KeyOperand, Below, plus, unknownTarget, unknownWritten, unknownOperand, unknownCell, readOnlyKey, repeatedKey, tooManyBy, counted, faultBy};
 use program::Cell;
 use program::Operand;
 use program::Variable;
@@ -26,8 +26,8 @@ pub struct Counts {
     pub variables: usize,
 }
 
-// A line of a text: its lowest fault, what the lines up to it make, and where the next one starts.
-struct Judged {
+// The lines of a text that are passed: the lowest fault of the last of them, what they make, and where the next one starts.
+struct Passed {
     fault: u8,
     counts: Counts,
     next: usize,
@@ -246,20 +246,39 @@ fn line_fault(s: &[u8], before: &[u8], counts: Counts, reading: Reading) -> u8
     NO_FAULT
 }
 
-// The line that starts at `at`, behind lines with these counts.
-fn judge_line(s: &[u8], at: usize, counts: Counts) -> Judged
-    requires { ⌜ (at < length (now s)) × Reached (now s) counts at ⌝ }
-    ensures { λ r. ⌜ JudgedAt (now (s .entry)) at r ⌝ }
+impl Passed {
+    // No line yet.
+    fn none() -> Passed
+        ensures { λ r. ⌜ r ≡ nonePassed ⌝ }
+    {
+        let counts = Counts {
+            cells: 0,
+            labels: 0,
+            variables: 0,
+        };
+        Passed {
+            fault: NO_FAULT,
+            counts,
+            next: 0,
+        }
+    }
+}
+
+// One line more is passed.
+fn pass_line(s: &[u8], passed: Passed) -> Passed
+    requires { ⌜ (passed .next < length (now s)) × Reached (now s) passed ⌝ }
+    ensures { λ r. ⌜ PassedAt (now (s .entry)) (passed .next) r ⌝ }
 {
+    let at = passed.next;
     let span = text::line_at(s, at);
     let end = span.end;
     let reading = reading::read_line(&s[at..end]);
     let before = &s[..at];
-    let fault = line_fault(s, before, counts, reading);
-    let with_it = counted(counts, reading.kind);
-    Judged {
+    let fault = line_fault(s, before, passed.counts, reading);
+    let counts = counted(passed.counts, reading.kind);
+    Passed {
         fault,
-        counts: with_it,
+        counts,
         next: span.next,
     }
 }
@@ -268,28 +287,23 @@ fn judge_line(s: &[u8], at: usize, counts: Counts) -> Judged
 pub fn survey_lines(s: &[u8]) -> Survey
     ensures { λ r. ⌜ Surveyed (now (s .entry)) r ⌝ }
 {
-    let mut counts = Counts {
-        cells: 0,
-        labels: 0,
-        variables: 0,
-    };
+    let mut passed = Passed::none();
     let mut line: usize = 1;
-    let mut at: usize = 0;
-    while at < s.len() {
-        let judged = judge_line(s, at, counts);
-        let number = judged.fault;
+    while passed.next < s.len() {
+        passed = pass_line(s, passed);
+        let number = passed.fault;
         if number != NO_FAULT {
             let fault = Fault { number, line };
+            let counts = passed.counts;
             return Survey { fault, counts };
         }
-        counts = judged.counts;
         line += 1;
-        at = judged.next;
     }
     let fault = Fault {
         number: NO_FAULT,
         line: 0,
     };
+    let counts = passed.counts;
     Survey { fault, counts }
 }
 
@@ -297,19 +311,12 @@ pub fn survey_lines(s: &[u8]) -> Survey
 pub fn line_faults(s: &[u8], faults: &mut [u8]) -> usize
     ensures { λ r. ⌜ AllJudged (now (s .entry)) r (now (faults .entry)) (now (faults .exit)) ⌝ }
 {
-    let mut counts = Counts {
-        cells: 0,
-        labels: 0,
-        variables: 0,
-    };
+    let mut passed = Passed::none();
     let mut line: usize = 0;
-    let mut at: usize = 0;
-    while at < s.len() {
-        let judged = judge_line(s, at, counts);
-        numbers::write(faults, line, 1, judged.fault as u64);
-        counts = judged.counts;
+    while passed.next < s.len() {
+        passed = pass_line(s, passed);
+        numbers::write(faults, line, 1, passed.fault as u64);
         line += 1;
-        at = judged.next;
     }
     line
 }

@@ -2,29 +2,28 @@
 -- Assumes nothing.
 use Prim.Native.Nat.{_+_, _-_}
 use borrow.Author.Needs.{needs}
-use denote.Ref.{now}
 use lib.ListN.{length}
 use Rattle.names.proofs.Surveying.{Surveying, surveying, survey-more, fault-here, fault-none}
 use Rattle.names.proofs.survey_lines.Statement.{statement}
 use Rattle.names.proofs.survey_lines.Tie as tie
 
 abbrev Inv-loop : tie.InvT-loop
-Inv-loop s counts₀ line₀ at₀ counts line at = Surveying s counts line at
+Inv-loop s passed₀ line₀ passed line = Surveying s passed line
 
 abbrev μ-loop : tie.MeasureT-loop
-μ-loop s counts₀ line₀ at₀ counts line at = length s + 1 - at
+μ-loop s passed₀ line₀ passed line = length s + 1 - passed .next
 
 loop-holds : tie.Need-loop-holds Inv-loop μ-loop
-loop-holds c = surveying (now (c .before .args .s))
+loop-holds c = surveying (c .none .ensures)
 
 returns : tie.Need-returns Inv-loop μ-loop
-returns c = let j = c .before in fault-here (j .before .before .loop .inv) (j .judge-line .ensures) (c .if1 .taken)
+returns c = let l = c .before .before in fault-here (l .before .before .before .loop .inv) (l .pass-line .ensures) (c .before .if2 .taken)
 
 loop-again : tie.Need-loop-again Inv-loop μ-loop
-loop-again c = let j = c .before .before in survey-more (j .before .before .loop .inv) (j .judge-line .ensures) (c .before .if1 .left)
+loop-again c = let l = c .before in survey-more (l .before .before .before .loop .inv) (l .pass-line .ensures) (c .if2 .left)
 
 returns-2 : tie.Need-returns-2 Inv-loop μ-loop
-returns-2 c = fault-none (c .before .loop .inv) (c .loop-test .left)
+returns-2 c = fault-none (c .before .before .before .loop .inv) (c .before .if1 .left)
 
 pub survey-lines-spec : {M : Type 1} → statement M
 survey-lines-spec =
@@ -32,6 +31,7 @@ survey-lines-spec =
     (tie.spec
     Inv-loop
     μ-loop
+    (search needs)
     loop-holds
     (λ c κs. search needs)
     returns

@@ -1,4 +1,4 @@
--- `judge_line` meets its contract.
+-- `pass_line` meets its contract.
 -- Assumes nothing.
 use borrow.Author.Needs.{needs}
 use denote.Ref.{now}
@@ -6,14 +6,14 @@ use lib.Seq.{length-take-le}
 use mathlib.Core.Path.{sym}
 use native.Mathlib.Omega.{arith}
 use Rattle.names.proofs.Asking.{keyed-by}
-use Rattle.names.proofs.Surveying.{judged, counts-below}
-use Rattle.names.proofs.judge_line.Statement.{statement}
-use Rattle.names.proofs.judge_line.Tie as tie
+use Rattle.names.proofs.Surveying.{line-passed, counts-below}
+use Rattle.names.proofs.pass_line.Statement.{statement}
+use Rattle.names.proofs.pass_line.Tie as tie
 
 slice-aggregate-before : tie.Need-slice-aggregate-before
 slice-aggregate-before c =
     let a = c .before .before .before .before .before .args in
-    sym (length-take-le (a .at) (now (a .s)) (omega arith))
+    sym (length-take-le (a .passed .next) (now (a .s)) (omega arith))
 
 line-fault-requires : tie.Need-line-fault-requires
 line-fault-requires c κs = keyed-by _ (c .before .read-line .result) (c .before .read-line .ensures)
@@ -26,10 +26,10 @@ returns c =
     let f = c .before in
     let q = f .before .before in
     let l = q .before .before in
-    judged (l .before .before .pre .1) (l .line-at .ensures) (q .read-line .ensures) (f .line-fault .ensures) (c .counted .ensures)
+    line-passed (l .before .before .pre .1) (l .line-at .ensures) (q .read-line .ensures) (f .line-fault .ensures) (c .counted .ensures)
 
-pub judge-line-spec : {M : Type 1} → statement M
-judge-line-spec =
+pub pass-line-spec : {M : Type 1} → statement M
+pass-line-spec =
     tie.close
     (tie.spec
     (search needs)
