@@ -1,13 +1,15 @@
-// What a command is given: arguments, and events and turns besides its text or image.
+// What a command is given besides its text or image: events and turns.
 use crate::files;
-use bench::Ran;
+use crate::paths;
+use crate::seen;
+use crate::seen::Seen;
+use events::Event;
 use telling::refusals;
+use writing::Page;
 
-// How many bytes a file of events has, whether it is a script, and then how many its events take; the status where it cannot be used.
+// How many bytes the events of a file take, and the status where it cannot be used.
 pub struct Given {
-    pub read: usize,
     pub length: usize,
-    pub is_script: bool,
     pub status: u8,
 }
 
@@ -17,46 +19,41 @@ pub struct Budget {
     pub is_number: bool,
 }
 
+// A refusal of events: its number, and the index of the event.
+struct Refusal {
+    number: u8,
+    index: usize,
+}
+
 // The most turns that a run may take.
 const MOST_TURNS: u64 = 4096;
 
-// The longest file of events that is read.
-pub const ROOM: usize = 262144;
+// The longest file of events that is read, and the room for events as bytes: for one more than a script may have.
+const ROOM: usize = 262144;
 
-pub type Room = [u8; ROOM];
+pub const EVENTS: usize = 49164;
+
+pub type Events = [u8; EVENTS];
 
 const LONG_FILE: u32 = 8;
+
+const ACCEPTED: u8 = 0;
 
 const REFUSED: u8 = 1;
 
 const TROUBLE: u8 = 2;
 
+const BAD_SCRIPT: u8 = 32;
+
 const BAD_EVENT: u8 = 33;
 
-pub fn room() -> Room {
-    [0; ROOM]
+pub fn no_bytes() -> Events {
+    [0; EVENTS]
 }
 
-// The first bytes of a name, of a text, an image or records, and of a file of events.
-pub fn of_name<'a>(name: &'a [u8; 4096], length: usize) -> &'a [u8] {
-    parts::front(name, length)
-}
-
-pub fn of_buffer<'a>(buffer: &'a [u8; 65536], length: usize) -> &'a [u8] {
-    parts::front(buffer, length)
-}
-
-pub fn of_room<'a>(room: &'a Room, length: usize) -> &'a [u8] {
-    parts::front(room, length)
-}
-
-// Puts an argument into an array, and answers its length; one that is too long for a name fills the array, and names no file.
-pub fn argument(i: usize, word: &mut [u8; 4096]) -> usize {
-    let length = os::arg(i, word);
-    if os::errno() == libc::ENAMETOOLONG {
-        return 4096;
-    }
-    length
+// The first bytes of the events.
+pub fn of_events<'a>(bytes: &'a Events, length: usize) -> &'a [u8] {
+    parts::front(bytes, length)
 }
 
 // The number of turns that a word gives; the most where there is no word. Digits without end are more than any run may take.
@@ -82,91 +79,141 @@ pub fn turns(word: &[u8]) -> Budget {
 
 // No events, and a status.
 fn no_events(status: u8) -> Given {
-    Given {
-        read: 0,
-        length: 0,
-        is_script: false,
-        status,
-    }
+    Given { length: 0, status }
 }
 
-// No file is meant by no name, nor by `-`.
-fn is_no_file(path: &[u8]) -> bool {
-    if path.len() == 0 {
-        return true;
+// What the system says of the file of events; there is none where none is meant.
+pub fn look(path: &[u8]) -> Seen {
+    if is_no_file(path) {
+        return seen::nothing();
     }
-    (path.len() == 1) & (path[0] == b'-')
+    seen::look_at(path)
+}
+
+// No events are meant by no name, nor by `-`.
+fn is_no_file(path: &[u8]) -> bool {
+    (path.len() == 0) | paths::is_dash(path)
+}
+
+// Reads the events that a run is given.
+pub fn events(page: &mut Page, path: &[u8], bytes: &mut Events) -> Given {
+    if is_no_file(path) {
+        return no_events(ACCEPTED);
+    }
+    script(page, path, bytes)
 }
 
 // Reads a file of events, a script or bytes. What is wrong with it is told.
-pub fn events(path: &[u8], file: &mut Room, bytes: &mut [u8; 65536]) -> Given {
-    if is_no_file(path) {
-        return no_events(0);
-    }
-    let contents = files::read(path, file);
+pub fn script(page: &mut Page, path: &[u8], bytes: &mut Events) -> Given {
+    let mut file = [0u8; ROOM];
+    let contents = files::read(page, path, &mut file);
+    let length = contents.length;
     if contents.failed {
         return no_events(TROUBLE);
     }
-    if contents.length == ROOM {
-        files::complain(path, LONG_FILE);
+    if length == ROOM {
+        files::complain(page, path, LONG_FILE);
         return no_events(TROUBLE);
     }
-    of_file(path, of_room(file, contents.length), bytes)
+    of_file(page, path, &file[..length], bytes)
 }
 
-fn of_file(path: &[u8], file: &[u8], bytes: &mut [u8; 65536]) -> Given {
-    if scripts::is_bytes(file) {
-        return accepted(path, file, file, false);
+fn of_file(page: &mut Page, path: &[u8], file: &[u8], bytes: &mut Events) -> Given {
+    let is_script = !scripts::is_bytes(file);
+    let mut length: usize = 0;
+    if is_script {
+        let script = scripts::translate(file, bytes);
+        if script.fault != scripts::NO_FAULT {
+            let held = refusals::put_of_script(page, path, file, script.line, script.fault);
+            files::tell(page, held);
+            return no_events(REFUSED);
+        }
+        length = script.length;
+    } else {
+        length = copy(file, bytes);
     }
-    let script = scripts::translate(file, bytes);
-    if script.fault != scripts::NO_FAULT {
-        let mut page = writing::page();
-        let held = refusals::put_of_script(&mut page, path, file, script.line, script.fault);
-        files::tell(&page, held);
-        return no_events(REFUSED);
-    }
-    accepted(path, file, of_buffer(bytes, script.length), true)
+    accepted(page, path, file, is_script, of_events(bytes, length))
 }
 
 // The events of a file, if a run takes them; else the refusal is told.
-fn accepted(path: &[u8], file: &[u8], events: &[u8], is_script: bool) -> Given {
-    let ran = answer_to(events);
-    if ran.number == 0 {
+fn accepted(page: &mut Page, path: &[u8], file: &[u8], is_script: bool, events: &[u8]) -> Given {
+    let refusal = refusal_of(events);
+    if refusal.number == 0 {
         return Given {
-            read: file.len(),
             length: events.len(),
-            is_script,
-            status: 0,
+            status: ACCEPTED,
         };
     }
-    refuse(path, file, is_script, ran.number, ran.index);
+    refuse(page, path, file, is_script, events, refusal);
     no_events(REFUSED)
 }
 
-// A refusal of events: of one, with the line of a script or the number of an event in bytes; or of them all.
-fn refuse(path: &[u8], file: &[u8], is_script: bool, number: u8, index: usize) {
-    let mut page = writing::page();
-    let mut held: usize = 0;
-    if number != BAD_EVENT {
-        held = refusals::put(&mut page, path, number);
-    } else if is_script {
-        held = refusals::put_of_line(
-            &mut page,
-            path,
-            file,
-            scripts::line_of_event(file, index),
-            number,
-        );
-    } else {
-        held = refusals::put_of_event(&mut page, path, index, number);
+// Copies bytes, as many as there is room for.
+fn copy(from: &[u8], bytes: &mut Events) -> usize {
+    let mut i: usize = 0;
+    while i < from.len() {
+        if EVENTS <= i {
+            return i;
+        }
+        bytes[i] = from[i];
+        i += 1;
     }
-    files::tell(&page, held);
+    i
 }
 
-// The answer to a run on these events: of the empty program, for no turns.
-fn answer_to(events: &[u8]) -> Ran {
-    let mut image = io::buffer();
-    let translated = bench::translate(&events[..0], &mut image);
-    let mut none = [0u8; 1];
-    bench::run(of_name(&image, translated.length), events, 0, &mut none)
+// Tells a refusal of events: of one, with the line of a script or the number of an event in bytes; or of them all.
+fn refuse(
+    page: &mut Page,
+    path: &[u8],
+    file: &[u8],
+    is_script: bool,
+    events: &[u8],
+    refusal: Refusal,
+) {
+    let number = refusal.number;
+    let index = refusal.index;
+    let mut held: usize = 0;
+    if number != BAD_EVENT {
+        held = refusals::put(page, path, number);
+    } else if is_script {
+        let line = scripts::line_of_event(file, index);
+        held = refusals::put_of_script_event(page, path, file, line, events, index, number);
+    } else {
+        held = refusals::put_of_event(page, path, events, index, number);
+    }
+    files::tell(page, held);
+}
+
+// Whether bytes are events that a run takes.
+pub fn are_events(bytes: &[u8]) -> bool {
+    let refusal = refusal_of(bytes);
+    refusal.number == 0
+}
+
+// What a run answers to events, before it looks at anything else: the number, and the index of a bad event.
+fn refusal_of(events: &[u8]) -> Refusal {
+    let count = events::script::event_count(events);
+    if Event::MOST < count {
+        return Refusal {
+            number: BAD_SCRIPT,
+            index: 0,
+        };
+    }
+    if events::script::is_bad_script(events) {
+        return Refusal {
+            number: BAD_SCRIPT,
+            index: 0,
+        };
+    }
+    let index = events::script::first_bad_event(events);
+    if index < count {
+        return Refusal {
+            number: BAD_EVENT,
+            index,
+        };
+    }
+    Refusal {
+        number: 0,
+        index: 0,
+    }
 }

@@ -1,107 +1,164 @@
-// The commands on images: check and run.
+// The commands on images: check and run. An image is read into room for more bytes than one may have.
 use crate::commands;
 use crate::commands::ACCEPTED;
 use crate::commands::TROUBLE;
 use crate::files;
 use crate::given;
+use crate::outputs;
+use crate::outputs::Output;
+use crate::paths;
+use crate::paths::Name;
 use bench::Ran;
 use telling::trace;
+use writing::Page;
+
+pub const IMAGE: usize = 5016;
+
+pub const RECORDS: usize = 49152;
+
+// The first bytes of an image, and of records.
+pub fn of_image<'a>(room: &'a [u8; IMAGE], length: usize) -> &'a [u8] {
+    parts::front(room, length)
+}
+
+pub fn of_records<'a>(room: &'a [u8; RECORDS], length: usize) -> &'a [u8] {
+    parts::front(room, length)
+}
 
 // check IMAGE
-pub fn check_command(path: &[u8]) -> u8 {
-    let mut room = io::large_buffer();
-    let contents = files::read(path, &mut room);
+pub fn check_command(page: &mut Page, path: &[u8]) -> u8 {
+    let mut room = [0u8; IMAGE];
+    let contents = files::read(page, path, &mut room);
     if contents.failed {
         return TROUBLE;
     }
-    check(path, given::of_buffer(&room, contents.length))
+    check(page, path, of_image(&room, contents.length))
 }
 
-fn check(path: &[u8], image: &[u8]) -> u8 {
+fn check(page: &mut Page, path: &[u8], image: &[u8]) -> u8 {
     let checked = bench::check(image);
     if checked.number != 0 {
-        return commands::refuse(path, checked.number);
+        return commands::refuse_image(page, path, image, checked.number);
     }
-    commands::tell_image(path, image)
+    let held = commands::put_image(page, path, image);
+    commands::done(page, held)
 }
 
-// run IMAGE EVENTS TURNS [RECORDS]
-pub fn run_command(path: &[u8], events: &[u8], word: &[u8], to: &[u8]) -> u8 {
+// run [-f] IMAGE EVENTS TURNS [RECORDS]
+pub fn run_command(
+    page: &mut Page,
+    path: &[u8],
+    events: &[u8],
+    word: &[u8],
+    to: &[u8],
+    force: bool,
+) -> u8 {
     let turns = given::turns(word);
-    if (word.len() == 0) | !turns.is_number {
-        return commands::usage(word, commands::NO_TURNS);
+    if !turns.is_number {
+        return commands::usage(page, word, commands::NO_TURNS);
     }
-    run_file(path, events, word, turns.count, to)
-}
-
-fn run_file(path: &[u8], events: &[u8], word: &[u8], turns: u64, to: &[u8]) -> u8 {
-    let mut room = io::large_buffer();
-    let contents = files::read(path, &mut room);
-    if contents.failed {
+    let mut name = io::buffer();
+    let output = prepare(page, path, events, to, &mut name, force);
+    if !output.allowed {
         return TROUBLE;
     }
-    run_script(
+    run_file(
+        page,
         path,
-        given::of_buffer(&room, contents.length),
         events,
         word,
-        turns,
+        turns.count,
         to,
+        output,
+        paths::of_name(&name, output.length),
     )
 }
 
-fn run_script(path: &[u8], image: &[u8], events: &[u8], word: &[u8], turns: u64, to: &[u8]) -> u8 {
-    let mut file = given::room();
-    let mut bytes = io::large_buffer();
-    let read = given::events(events, &mut file, &mut bytes);
+// The file for the records; none where none is named.
+fn prepare(
+    page: &mut Page,
+    path: &[u8],
+    events: &[u8],
+    to: &[u8],
+    name: &mut Name,
+    force: bool,
+) -> Output {
+    if to.len() == 0 {
+        return outputs::none();
+    }
+    outputs::prepare(
+        page,
+        to,
+        name,
+        outputs::RECORDS,
+        force,
+        files::look(path),
+        given::look(events),
+    )
+}
+
+fn run_file(
+    page: &mut Page,
+    path: &[u8],
+    events: &[u8],
+    word: &[u8],
+    turns: u64,
+    to: &[u8],
+    output: Output,
+    name: &[u8],
+) -> u8 {
+    let mut room = [0u8; IMAGE];
+    let contents = files::read(page, path, &mut room);
+    if contents.failed {
+        return TROUBLE;
+    }
+    let mut bytes = given::no_bytes();
+    let read = given::events(page, events, &mut bytes);
     if read.status != ACCEPTED {
         return read.status;
     }
-    let source = given::of_room(&file, read.read);
-    let script = parts::either(
-        read.is_script,
-        given::of_buffer(&bytes, read.length),
-        source,
-    );
-    run_with(path, image, source, script, word, turns, to)
+    run_with(
+        page,
+        path,
+        of_image(&room, contents.length),
+        given::of_events(&bytes, read.length),
+        word,
+        turns,
+        to,
+        output,
+        name,
+    )
 }
 
 // Runs an image on events, keeps the records where a file is named for them, and tells how it went.
 fn run_with(
+    page: &mut Page,
     path: &[u8],
     image: &[u8],
-    source: &[u8],
     script: &[u8],
     word: &[u8],
     turns: u64,
     to: &[u8],
+    output: Output,
+    name: &[u8],
 ) -> u8 {
-    let mut room = io::large_buffer();
+    let mut room = [0u8; RECORDS];
     let ran = bench::run(image, script, turns, &mut room);
     if ran.number != 0 {
-        return commands::refuse_run(path, word, ran.number);
+        return commands::refuse_run(page, path, image, word, ran.number);
     }
-    let records = commands::records_of(given::of_buffer(&room, 65536), ran.records);
-    if !keep_records(to, image, source, records) {
-        return TROUBLE;
+    let records = commands::records_of(of_records(&room, RECORDS), ran.records);
+    if to.len() != 0 {
+        if !outputs::write(page, to, output, name, records) {
+            return TROUBLE;
+        }
     }
-    tell(image, records, ran)
+    let held = put(page, image, records, ran);
+    commands::done_with(page, held, to, output)
 }
 
-// Writes the records, unless no file is named for them; nor to the file of the image or of the events.
-fn keep_records(to: &[u8], image: &[u8], events: &[u8], records: &[u8]) -> bool {
-    if to.len() == 0 {
-        return true;
-    }
-    if files::is_source(to, image, records) {
-        return commands::keep(to, image, records);
-    }
-    commands::keep(to, events, records)
-}
-
-// Tells what a run recorded, and how it ended.
-fn tell(image: &[u8], records: &[u8], ran: Ran) -> u8 {
-    let mut page = writing::page();
-    let held = trace::put_records(&mut page, image, records);
-    commands::tell_end(&mut page, held, image, ran)
+// What a run recorded, and how it ended.
+fn put(page: &mut Page, image: &[u8], records: &[u8], ran: Ran) -> usize {
+    let held = trace::put_records(page, image, records);
+    commands::put_end(page, held, image, ran)
 }

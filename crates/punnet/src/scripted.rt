@@ -2,27 +2,45 @@
 use crate::commands;
 use crate::commands::ACCEPTED;
 use crate::commands::TROUBLE;
+use crate::files;
 use crate::given;
+use crate::outputs;
+use crate::outputs::Output;
+use crate::paths;
+use crate::seen;
 use writing::Line;
+use writing::Page;
 
-// events SCRIPT EVENTS
-pub fn events_command(path: &[u8], to: &[u8]) -> u8 {
-    let mut file = given::room();
-    let mut room = io::large_buffer();
-    let read = given::events(path, &mut file, &mut room);
+// events [-f] SCRIPT EVENTS
+pub fn events_command(page: &mut Page, path: &[u8], to: &[u8], force: bool) -> u8 {
+    let mut name = io::buffer();
+    let output = outputs::prepare(
+        page,
+        to,
+        &mut name,
+        outputs::EVENTS,
+        force,
+        files::look(path),
+        seen::nothing(),
+    );
+    if !output.allowed {
+        return TROUBLE;
+    }
+    write(page, path, to, output, paths::of_name(&name, output.length))
+}
+
+fn write(page: &mut Page, path: &[u8], to: &[u8], output: Output, name: &[u8]) -> u8 {
+    let mut room = given::no_bytes();
+    let read = given::script(page, path, &mut room);
     if read.status != ACCEPTED {
         return read.status;
     }
-    let source = given::of_room(&file, read.read);
-    let bytes = parts::either(read.is_script, given::of_buffer(&room, read.length), source);
-    keep(to, source, bytes)
-}
-
-fn keep(to: &[u8], source: &[u8], bytes: &[u8]) -> u8 {
-    if !commands::keep(to, source, bytes) {
+    let bytes = given::of_events(&room, read.length);
+    if !outputs::write(page, to, output, name, bytes) {
         return TROUBLE;
     }
     let count = events::script::event_count(bytes) as u64;
     let line = telling::part_number(Line::empty(), words::EVENTS, count);
-    commands::tell_of(to, line.end())
+    let held = commands::put_of(page, to, line.end());
+    commands::done_with(page, held, to, output)
 }

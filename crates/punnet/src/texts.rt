@@ -1,24 +1,52 @@
-// The commands on texts: try and translate.
+// The commands on texts: try and translate. A text is read into room for more bytes than one may have.
 use crate::commands;
 use crate::commands::ACCEPTED;
 use crate::commands::REFUSED;
 use crate::commands::TROUBLE;
 use crate::files;
 use crate::given;
+use crate::images;
+use crate::images::IMAGE;
+use crate::images::RECORDS;
+use crate::outputs;
+use crate::outputs::Output;
+use crate::paths;
+use crate::seen;
 use bench::Ran;
 use telling::refusals;
 use telling::trace;
 use tried::Tried;
 use writing::Page;
 
-// A refusal of a text: of a line of it, or of the whole.
-fn refuse(path: &[u8], text: &[u8], line: usize, number: u8) -> u8 {
+const TEXT: usize = 16400;
+
+// Two bytes for each turn of a run.
+const VISITS: usize = 8192;
+
+// The longest text that has lines to tell of.
+const MOST_LINES: usize = 16384;
+
+fn of_text<'a>(room: &'a [u8; TEXT], length: usize) -> &'a [u8] {
+    parts::front(room, length)
+}
+
+fn of_visits<'a>(room: &'a [u8; VISITS], length: usize) -> &'a [u8] {
+    parts::front(room, length)
+}
+
+fn of_faults<'a>(room: &'a [u8; MOST_LINES], length: usize) -> &'a [u8] {
+    parts::front(room, length)
+}
+
+// A refusal of a text: of the whole, or of its lines.
+fn refuse(page: &mut Page, path: &[u8], text: &[u8], line: usize, number: u8) -> u8 {
     if line == 0 {
-        return commands::refuse(path, number);
+        return commands::refuse(page, path, number);
     }
-    let mut page = writing::page();
-    let held = refusals::put_of_line(&mut page, path, text, line, number);
-    files::tell(&page, held);
+    let mut room = [0u8; MOST_LINES];
+    let count = names::line_faults(text, &mut room);
+    let held = refusals::put_faults(page, path, text, of_faults(&room, count));
+    files::tell(page, held);
     REFUSED
 }
 
@@ -29,70 +57,70 @@ fn is_count(word: &[u8]) -> bool {
 }
 
 // try TEXT [EVENTS] [TURNS]: a lone word of digits behind the text is the turns.
-pub fn try_command(path: &[u8], events: &[u8], turns: &[u8]) -> u8 {
+pub fn try_command(page: &mut Page, path: &[u8], events: &[u8], turns: &[u8]) -> u8 {
     if (turns.len() == 0) & is_count(events) {
-        return try_turns(path, turns, events);
+        return try_turns(page, path, turns, events);
     }
-    try_turns(path, events, turns)
+    try_turns(page, path, events, turns)
 }
 
-fn try_turns(path: &[u8], events: &[u8], word: &[u8]) -> u8 {
+fn try_turns(page: &mut Page, path: &[u8], events: &[u8], word: &[u8]) -> u8 {
     let turns = given::turns(word);
     if !turns.is_number {
-        return commands::usage(word, commands::NO_TURNS);
+        return commands::usage(page, word, commands::NO_TURNS);
     }
-    try_file(path, events, word, turns.count)
+    try_file(page, path, events, word, turns.count)
 }
 
-fn try_file(path: &[u8], events: &[u8], word: &[u8], turns: u64) -> u8 {
-    let mut text = io::large_buffer();
-    let contents = files::read(path, &mut text);
+fn try_file(page: &mut Page, path: &[u8], events: &[u8], word: &[u8], turns: u64) -> u8 {
+    let mut text = [0u8; TEXT];
+    let contents = files::read(page, path, &mut text);
     if contents.failed {
         return TROUBLE;
     }
-    try_script(
+    let mut bytes = given::no_bytes();
+    let read = given::events(page, events, &mut bytes);
+    if read.status != ACCEPTED {
+        return read.status;
+    }
+    try_with(
+        page,
         path,
-        given::of_buffer(&text, contents.length),
-        events,
+        of_text(&text, contents.length),
+        given::of_events(&bytes, read.length),
         word,
         turns,
     )
 }
 
-fn try_script(path: &[u8], text: &[u8], events: &[u8], word: &[u8], turns: u64) -> u8 {
-    let mut file = given::room();
-    let mut bytes = io::large_buffer();
-    let read = given::events(events, &mut file, &mut bytes);
-    if read.status != ACCEPTED {
-        return read.status;
-    }
-    let script = parts::either(
-        read.is_script,
-        given::of_buffer(&bytes, read.length),
-        given::of_room(&file, read.read),
-    );
-    try_with(path, text, script, word, turns)
-}
-
 // Tries a text on events, and tells how it went.
-fn try_with(path: &[u8], text: &[u8], events: &[u8], word: &[u8], turns: u64) -> u8 {
-    let mut image = io::large_buffer();
-    let mut records = io::large_buffer();
+fn try_with(
+    page: &mut Page,
+    path: &[u8],
+    text: &[u8],
+    events: &[u8],
+    word: &[u8],
+    turns: u64,
+) -> u8 {
+    let mut image = [0u8; IMAGE];
+    let mut records = [0u8; RECORDS];
     let tried = tried::try_text(text, &mut image, events, turns, &mut records);
     outcome(
+        page,
         path,
         text,
         events,
         word,
         turns,
         tried,
-        given::of_buffer(&image, 65536),
-        given::of_buffer(&records, 65536),
+        images::of_image(&image, IMAGE),
+        images::of_records(&records, RECORDS),
     )
 }
 
 // A refusal of the text or of the run; else the run, with its image and records, which stand at the front of their buffers.
 fn outcome(
+    page: &mut Page,
     path: &[u8],
     text: &[u8],
     events: &[u8],
@@ -104,13 +132,14 @@ fn outcome(
 ) -> u8 {
     let translated = tried.translated;
     if translated.number != 0 {
-        return refuse(path, text, translated.line, translated.number);
+        return refuse(page, path, text, translated.line, translated.number);
     }
     let ran = tried.ran;
     if ran.number != 0 {
-        return commands::refuse_run(path, word, ran.number);
+        return commands::refuse_run(page, path, image, word, ran.number);
     }
     tell(
+        page,
         text,
         parts::front(image, translated.length),
         events,
@@ -121,10 +150,18 @@ fn outcome(
 }
 
 // Tells a run turn by turn, and how it ended.
-fn tell(text: &[u8], image: &[u8], events: &[u8], records: &[u8], turns: u64, ran: Ran) -> u8 {
-    let mut page = writing::page();
-    let held = put_turns(&mut page, text, image, events, records, turns);
-    commands::tell_end(&mut page, held, image, ran)
+fn tell(
+    page: &mut Page,
+    text: &[u8],
+    image: &[u8],
+    events: &[u8],
+    records: &[u8],
+    turns: u64,
+    ran: Ran,
+) -> u8 {
+    let mut held = put_turns(page, text, image, events, records, turns);
+    held = commands::put_end(page, held, image, ran);
+    commands::done(page, held)
 }
 
 fn put_turns(
@@ -135,8 +172,8 @@ fn put_turns(
     records: &[u8],
     turns: u64,
 ) -> usize {
-    let mut room = io::large_buffer();
-    let mut visits = io::large_buffer();
+    let mut room = [0u8; IMAGE];
+    let mut visits = [0u8; VISITS];
     let taken = tried::visit_text(text, &mut room, events, turns, &mut visits);
     trace::put(
         page,
@@ -144,30 +181,62 @@ fn put_turns(
         image,
         events,
         records,
-        given::of_buffer(&visits, 65536),
+        of_visits(&visits, VISITS),
         taken,
     )
 }
 
-// translate TEXT IMAGE
-pub fn translate_command(path: &[u8], to: &[u8]) -> u8 {
-    let mut room = io::large_buffer();
-    let contents = files::read(path, &mut room);
+// translate [-f] TEXT IMAGE
+pub fn translate_command(page: &mut Page, path: &[u8], to: &[u8], force: bool) -> u8 {
+    let mut name = io::buffer();
+    let output = outputs::prepare(
+        page,
+        to,
+        &mut name,
+        outputs::IMAGE,
+        force,
+        files::look(path),
+        seen::nothing(),
+    );
+    if !output.allowed {
+        return TROUBLE;
+    }
+    translate_file(page, path, to, output, paths::of_name(&name, output.length))
+}
+
+fn translate_file(page: &mut Page, path: &[u8], to: &[u8], output: Output, name: &[u8]) -> u8 {
+    let mut room = [0u8; TEXT];
+    let contents = files::read(page, path, &mut room);
     if contents.failed {
         return TROUBLE;
     }
-    translate(path, given::of_buffer(&room, contents.length), to)
+    translate(
+        page,
+        path,
+        of_text(&room, contents.length),
+        to,
+        output,
+        name,
+    )
 }
 
-fn translate(path: &[u8], text: &[u8], to: &[u8]) -> u8 {
-    let mut room = io::large_buffer();
+fn translate(
+    page: &mut Page,
+    path: &[u8],
+    text: &[u8],
+    to: &[u8],
+    output: Output,
+    name: &[u8],
+) -> u8 {
+    let mut room = [0u8; IMAGE];
     let translated = bench::translate(text, &mut room);
     if translated.number != 0 {
-        return refuse(path, text, translated.line, translated.number);
+        return refuse(page, path, text, translated.line, translated.number);
     }
-    let image = given::of_buffer(&room, translated.length);
-    if !commands::keep(to, text, image) {
+    let image = images::of_image(&room, translated.length);
+    if !outputs::write(page, to, output, name, image) {
         return TROUBLE;
     }
-    commands::tell_image(to, image)
+    let held = commands::put_image(page, to, image);
+    commands::done_with(page, held, to, output)
 }

@@ -68,13 +68,17 @@ pub const EVENT: u32 = 21;
 
 pub const TURNS_ASKED: u32 = 22;
 
+pub const STANDARD_INPUT: u32 = 23;
+
+pub const VERSION: u32 = 24;
+
 // The bytes of the table, the place of the first line for people, the number of lines, and the bytes of the longest line with its end.
 // What is sought most often stands first.
-pub const SIZE: usize = 3390;
+pub const SIZE: usize = 4087;
 
-pub const FIRST_FOR_PEOPLE: usize = 744;
+pub const FIRST_FOR_PEOPLE: usize = 878;
 
-const LINE_COUNT: usize = 92;
+const LINE_COUNT: usize = 108;
 
 pub const LONGEST: usize = 76;
 
@@ -111,6 +115,8 @@ part 19: \\x
 part 20: .part
 part 21: event 
 part 22:  turns: 
+part 23: /dev/stdin
+part 24: punnet 1.0, for images of edition 1
 command 1: try
 command 2: translate
 command 3: check
@@ -118,6 +124,10 @@ command 4: run
 command 5: events
 command 6: words
 command 7: help
+command 8: -h
+command 9: --help
+command 10: --version
+command 11: -f
 refusal 1: the text has more than 16,384 bytes
 refusal 2: the line has more than 64 bytes
 refusal 3: a byte or a form that no statement has
@@ -161,42 +171,52 @@ hint 12: the parts of the line make no statement
 script 1: no event; TURN arrived, TURN input N VALUE or TURN position VALUE
 script 2: a number that does not fit in an event
 usage 1: wants TEXT [EVENTS] [TURNS]
-usage 2: wants TEXT IMAGE
+usage 2: wants [-f] TEXT IMAGE
 usage 3: wants IMAGE
-usage 4: wants IMAGE EVENTS TURNS [RECORDS]
-usage 5: wants SCRIPT EVENTS
+usage 4: wants [-f] IMAGE EVENTS TURNS [RECORDS]
+usage 5: wants [-f] SCRIPT EVENTS
 usage 6: no such command; punnet help lists them
 usage 7: not a number of turns
 usage 8: longer than a script may be, 262,143 bytes
-usage 9: holds what was read; give another name to write to
+usage 9: the file that is read; give another name to write to
 usage 10: not a plain file, and so not written
+usage 11: holds something else than an image; -f writes over it
+usage 12: holds something else than records; -f writes over it
+usage 13: holds something else than events as bytes; -f writes over it
+usage 14: an argument is empty
+usage 15: no such option; for a file of that name put ./ in front
+usage 16: left from a write that did not end; look at it, then remove it
+usage 17: no command and no number; see punnet help and punnet words
+usage 18: written, but what is told of it is not
+usage 19: wants nothing
+usage 20: wants [COMMAND or NUMBER]
 ";
 
-pub const HELP_SIZE: usize = 1364;
+pub const HELP_SIZE: usize = 1634;
 
 const HELP: [u8; HELP_SIZE] = *b"punnet: MCode programs tried on the bench before a motor sees them
 
   punnet try TEXT [EVENTS] [TURNS]
       translate a text, run it, and tell what happened turn by turn
       example: punnet try feeder.mc feeder.events
-  punnet translate TEXT IMAGE
+  punnet translate [-f] TEXT IMAGE
       write the image of a text
       example: punnet translate feeder.mc feeder.image
   punnet check IMAGE
       tell whether a text stands behind an image
       example: punnet check feeder.image
-  punnet run IMAGE EVENTS TURNS [RECORDS]
+  punnet run [-f] IMAGE EVENTS TURNS [RECORDS]
       run an image, tell what it recorded, and keep the records in a file
       example: punnet run feeder.image feeder.events 200 feeder.records
-  punnet events SCRIPT EVENTS
+  punnet events [-f] SCRIPT EVENTS
       write the events of a script in 12 bytes each
       example: punnet events feeder.events feeder.bytes
   punnet words
       list every number that an answer can have, with its words
       example: punnet words
-  punnet help
-      show this text
-      example: punnet help
+  punnet help [COMMAND or NUMBER]
+      show this text, what it says of a command, or what a number means
+      example: punnet help 8
 
 A script has an event on each line; ' starts a comment:
       3 arrived          in turn 3 the move arrives
@@ -204,6 +224,9 @@ A script has an event on each line; ' starts a comment:
       7 position -100    in turn 7 the position becomes -100
 EVENTS is a script or its bytes, or - for no event. TURNS is 0 to 4096;
 try takes 4096 where none is given. Turns count from 0.
+TEXT, IMAGE and SCRIPT may be - for standard input, and a file that is
+written - for standard output. A file that holds something else than
+what is written is replaced only with -f.
 The status is 0 accepted or run, 1 refused, 2 usage or file trouble.
 ";
 

@@ -2,17 +2,17 @@
 -- Assumes nothing.
 use Prim.Native.Nat.{_-_}
 use borrow.Author.Needs.{needs}
-use Rattle.punnet.proofs.files.make_part.Statement.{statement}
-use Rattle.punnet.proofs.files.make_part.Tie as tie
+use Rattle.punnet.proofs.outputs.make_part.Statement.{statement}
+use Rattle.punnet.proofs.outputs.make_part.Tie as tie
 
 abbrev Inv-loop : tie.InvT-loop
-Inv-loop path name₀ k₀ name k = Unit {0}
+Inv-loop page₀ path part₀ k₀ page part k = Unit {0}
 
 abbrev μ-loop : tie.MeasureT-loop
-μ-loop path name₀ k₀ name k = 10 - k
+μ-loop page₀ path part₀ k₀ page part k = 65535 - k
 
 pub make-part-spec : {M : Type 1} → statement M
 make-part-spec =
     tie.close
     (tie.spec Inv-loop μ-loop (search needs) (search needs) (search needs) (search needs) (search needs) (search needs) (search needs)
-    (search needs) (search needs) (search needs))
+    (search needs) (search needs) (search needs) (search needs) (search needs))
