@@ -79,7 +79,7 @@ fn declared_in(l: &[u8], key: u16) -> u8
 }
 
 // The kind of the first line that declares the name with this key, sought from the front of the text; BLANK where there is no such line.
-fn declared_as(s: &[u8], key: u16) -> u8
+pub fn declared_as(s: &[u8], key: u16) -> u8
     ensures { λ r. ⌜ DeclaredAs (now (s .entry)) key r ⌝ }
 {
     let mut at: usize = 0;

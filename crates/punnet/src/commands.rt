@@ -66,10 +66,18 @@ pub fn refuse(path: &[u8], number: u8) -> u8 {
     REFUSED
 }
 
+// A refusal of an image.
+pub fn refuse_image(path: &[u8], image: &[u8], number: u8) -> u8 {
+    let mut page = writing::page();
+    let held = refusals::put_of_image(&mut page, path, image, number);
+    files::tell(&page, held);
+    REFUSED
+}
+
 // A refusal of a run, whose events were accepted: of the image, or of the turns.
-pub fn refuse_run(image: &[u8], turns: &[u8], number: u8) -> u8 {
+pub fn refuse_run(path: &[u8], image: &[u8], turns: &[u8], number: u8) -> u8 {
     if number < MANY_TURNS {
-        return refuse(image, number);
+        return refuse_image(path, image, number);
     }
     let mut page = writing::page();
     let held = refusals::put_of_turns(&mut page, turns, number);

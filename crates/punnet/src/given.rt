@@ -139,26 +139,28 @@ fn accepted(path: &[u8], file: &[u8], events: &[u8], is_script: bool) -> Given {
             status: 0,
         };
     }
-    refuse(path, file, is_script, ran.number, ran.index);
+    refuse(path, file, events, is_script, ran.number, ran.index);
     no_events(REFUSED)
 }
 
 // A refusal of events: of one, with the line of a script or the number of an event in bytes; or of them all.
-fn refuse(path: &[u8], file: &[u8], is_script: bool, number: u8, index: usize) {
+fn refuse(path: &[u8], file: &[u8], events: &[u8], is_script: bool, number: u8, index: usize) {
     let mut page = writing::page();
     let mut held: usize = 0;
     if number != BAD_EVENT {
         held = refusals::put(&mut page, path, number);
     } else if is_script {
-        held = refusals::put_of_line(
+        held = refusals::put_of_script_event(
             &mut page,
             path,
             file,
             scripts::line_of_event(file, index),
+            events,
+            index,
             number,
         );
     } else {
-        held = refusals::put_of_event(&mut page, path, index, number);
+        held = refusals::put_of_event(&mut page, path, events, index, number);
     }
     files::tell(&page, held);
 }

@@ -20,7 +20,7 @@ pub fn check_command(path: &[u8]) -> u8 {
 fn check(path: &[u8], image: &[u8]) -> u8 {
     let checked = bench::check(image);
     if checked.number != 0 {
-        return commands::refuse(path, checked.number);
+        return commands::refuse_image(path, image, checked.number);
     }
     commands::tell_image(path, image)
 }
@@ -79,7 +79,7 @@ fn run_with(
     let mut room = io::large_buffer();
     let ran = bench::run(image, script, turns, &mut room);
     if ran.number != 0 {
-        return commands::refuse_run(path, word, ran.number);
+        return commands::refuse_run(path, image, word, ran.number);
     }
     let records = commands::records_of(given::of_buffer(&room, 65536), ran.records);
     if !keep_records(to, image, source, records) {

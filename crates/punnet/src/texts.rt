@@ -17,7 +17,7 @@ fn refuse(path: &[u8], text: &[u8], line: usize, number: u8) -> u8 {
         return commands::refuse(path, number);
     }
     let mut page = writing::page();
-    let held = refusals::put_of_line(&mut page, path, text, line, number);
+    let held = refusals::put_of_line(&mut page, 0, path, text, line, number);
     files::tell(&page, held);
     REFUSED
 }
@@ -108,7 +108,7 @@ fn outcome(
     }
     let ran = tried.ran;
     if ran.number != 0 {
-        return commands::refuse_run(path, word, ran.number);
+        return commands::refuse_run(path, image, word, ran.number);
     }
     tell(
         text,
