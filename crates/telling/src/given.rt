@@ -73,7 +73,7 @@ pub fn fault(events: &[u8], index: usize) -> u32 {
 }
 
 // Which word of a script's line is at fault, from 0.
-pub fn word_at_fault(fault: u32) -> usize {
+fn word_at_fault(fault: u32) -> usize {
     match fault {
         INPUT_NUMBER => 2,
         INPUT_VALUE => 3,
@@ -82,12 +82,24 @@ pub fn word_at_fault(fault: u32) -> usize {
     }
 }
 
-// Characters, blanks and ends of lines alone.
+// Why the event with this number is bad that stands on a line of a script.
+pub fn on_line(line: &[u8], events: &[u8], index: usize) -> Hint {
+    let fault = fault(events, index);
+    let place = parts::word_place(parts::code(line), word_at_fault(fault));
+    hints::at(place, fault)
+}
+
+// Where a line of a script has a fault.
+pub fn in_script(line: &[u8], fault: u8) -> Hint {
+    hints::at(scripts::place_of_fault(parts::code(line), fault), NOTHING)
+}
+
+// No control characters but those between words and lines.
 fn is_text(bytes: &[u8]) -> bool {
     let mut i: usize = 0;
     while i < bytes.len() {
         let b = bytes[i];
-        if (b'~' < b) | ((b < b' ') & (b != b'\t') & (b != b'\r') & (b != b'\n')) {
+        if (b < b'\t') | ((b'\r' < b) & (b < b' ')) {
             return false;
         }
         i += 1;
@@ -95,9 +107,9 @@ fn is_text(bytes: &[u8]) -> bool {
     true
 }
 
-// An event or a record as it may follow one in this turn.
-fn may_follow(entry: Event, before: u32) -> bool {
-    (before <= entry.turn) & (1 <= entry.kind) & (entry.kind <= Record::FAILED) & (entry.zeros == 0)
+// A kind and zeros as an event or a record has them. The last zeros stand where an image has its edition.
+fn may_be_entry(entry: Event) -> bool {
+    (1 <= entry.kind) & (entry.kind <= Record::FAILED) & (entry.zeros == 0)
 }
 
 // Such entries alone, in 12 bytes each.
@@ -106,7 +118,7 @@ fn are_entries(bytes: &[u8]) -> bool {
         return false;
     }
     for k in 0..events::script::event_count(bytes) {
-        if !may_follow(entry(bytes, k), turn_before(bytes, k)) {
+        if !may_be_entry(entry(bytes, k)) {
             return false;
         }
     }

@@ -60,10 +60,20 @@ const HIGHEST: u64 = Variable::HIGHEST_LITERAL as u64;
 
 // What is wrong at a place of a line.
 pub fn at(place: usize, number: u32) -> Hint {
-    of_name(place, number, 0, 0)
+    Hint {
+        column: column(place),
+        number,
+        name: 0,
+        value: 0,
+    }
 }
 
-fn of_name(place: usize, number: u32, name: u16, value: usize) -> Hint {
+// What is wrong with a name at a place of a line, and for one that is declared before, where.
+fn named(text: &[u8], name: u16, place: usize, number: u32) -> Hint {
+    let mut value: usize = 0;
+    if number == DECLARED_ON {
+        value = declaring(text, name);
+    }
     Hint {
         column: column(place),
         number,
@@ -86,14 +96,22 @@ fn of_run(run: &[u8], is_first: bool) -> u32 {
     if is_first & (runs::mnemonic(run) != NOTHING) {
         return NOTHING;
     }
-    if is_letter(first) & (runs::WORD < run.len()) {
+    if is_digit(first) {
+        return of_number(run.len());
+    }
+    if runs::WORD < run.len() {
         return LONG_WORD;
     }
-    if is_digit(first) & (DIGITS < run.len()) {
-        return LONG_NUMBER;
-    }
-    if is_letter(first) & (run.len() == 1) & !is_first & !is_reserved(first as u16) {
+    if (run.len() == 1) & !is_first & !is_reserved(first as u16) {
         return ONE_LETTER;
+    }
+    NOTHING
+}
+
+// What is wrong with so many digits.
+fn of_number(length: usize) -> u32 {
+    if DIGITS < length {
+        return LONG_NUMBER;
     }
     NOTHING
 }
@@ -152,23 +170,26 @@ fn first_meant(text: &[u8], code: &[u8], apart: usize, refusal: u8) -> usize {
     i
 }
 
-// The first name of a line that is not declared as it is wanted.
-fn unknown(text: &[u8], code: &[u8], first: usize, second: usize) -> Hint {
-    let mut label = code.len();
-    if runs::wants_label(runs::mnemonic(runs::at(code, first))) {
-        label = second;
+// The place of a label's name that a line jumps to; the length of the code where it jumps nowhere.
+fn label_place(code: &[u8]) -> usize {
+    if runs::wants_label(runs::beginning(code)) {
+        return runs::second(code);
     }
-    let place = first_meant(text, code, label, UNKNOWN);
-    let run = runs::at(code, place);
-    of_name(place, of_user(text, run, place == label), runs::key(run), 0)
+    code.len()
 }
 
-// The name that a line stores to: behind a mnemonic, or in front.
-fn stored(code: &[u8], first: usize, second: usize) -> Hint {
-    if runs::mnemonic(runs::at(code, first)) != NOTHING {
-        return of_name(second, READ_ONLY, runs::key(runs::at(code, second)), 0);
+// The place of the name that a line stores to: behind a mnemonic, or in front.
+fn stored_place(code: &[u8]) -> usize {
+    if runs::beginning(code) != NOTHING {
+        return runs::second(code);
     }
-    of_name(first, READ_ONLY, runs::key(runs::at(code, first)), 0)
+    runs::first(code)
+}
+
+// Whether a line declares a name.
+fn declares(line: &[u8], key: u16) -> bool {
+    let reading = reading::read_line(line);
+    reading.name == key
 }
 
 // The first line of a text, from 1, that declares a name; 0 where there is none.
@@ -177,20 +198,13 @@ fn declaring(text: &[u8], key: u16) -> usize {
     let mut at: usize = 0;
     while at < text.len() {
         let span = text::line_at(text, at);
-        let reading = reading::read_line(parts::between(text, at, span.end));
-        if reading.name == key {
+        if declares(parts::between(text, at, span.end), key) {
             return line;
         }
         line += 1;
         at = span.next;
     }
     0
-}
-
-// A name that an earlier line declares.
-fn repeated(text: &[u8], code: &[u8], place: usize) -> Hint {
-    let key = runs::key(runs::at(code, place));
-    of_name(place, DECLARED_ON, key, declaring(text, key))
 }
 
 fn is_operator(b: u8) -> bool {
@@ -226,74 +240,121 @@ fn behind_operand(code: &[u8], sign: usize) -> usize {
     parts::past_blanks(code, runs::end(code, start))
 }
 
-// A line with an equals sign at this place, behind its first run.
-fn of_setting(code: &[u8], first: usize, equals: usize) -> Hint {
-    let operator = behind_operand(code, equals);
+fn has_operator(code: &[u8], place: usize) -> bool {
+    is_operator(parts::byte(code, place))
+}
+
+// A line with an equals sign behind its first run.
+fn of_setting(code: &[u8]) -> Hint {
+    let operator = behind_operand(code, runs::second(code));
     let next = behind_operand(code, operator);
-    if of_run(runs::at(code, first), false) != NOTHING {
-        return at(first, ONE_LETTER);
-    }
-    if is_operator(parts::byte(code, operator)) & is_operator(parts::byte(code, next)) {
+    if has_operator(code, operator) & has_operator(code, next) {
         return at(next, SECOND_OPERATOR);
     }
-    at(first, NO_FORM)
+    at(runs::first(code), NO_FORM)
 }
 
 // A line that begins with a mnemonic.
-fn of_mnemonic(code: &[u8], first: usize, second: usize, mnemonic: u32) -> Hint {
-    let run = runs::at(code, second);
-    let is_number = is_digit(parts::byte(run, 0));
-    let is_zero = (mnemonic == runs::OE) & (runs::key(run) == ZERO);
-    if runs::wants_label(mnemonic) & is_number & !is_zero {
-        return at(second, NUMBER_FOR_LABEL);
+fn of_mnemonic(code: &[u8], mnemonic: u32) -> Hint {
+    let run = runs::at(code, runs::second(code));
+    if runs::wants_label(mnemonic) & is_number_for_label(run, mnemonic) {
+        return at(runs::second(code), NUMBER_FOR_LABEL);
     }
-    at(first, mnemonic)
+    at(runs::first(code), mnemonic)
+}
+
+// A number, other than the one that OE takes.
+fn is_number_for_label(run: &[u8], mnemonic: u32) -> bool {
+    if (mnemonic == runs::OE) & (runs::key(run) == ZERO) {
+        return false;
+    }
+    is_digit(parts::byte(run, 0))
+}
+
+// How a line begins that is no statement, and neither with a mnemonic nor with what is set.
+fn of_word(run: &[u8]) -> u32 {
+    if Variable::number_of(runs::key(run)) != 0 {
+        return NO_EQUALS;
+    }
+    NO_STATEMENT
 }
 
 // How a line begins that is no statement.
-fn of_beginning(code: &[u8], first: usize, second: usize) -> Hint {
-    let run = runs::at(code, first);
-    let mnemonic = runs::mnemonic(run);
+fn of_beginning(code: &[u8]) -> Hint {
+    let mnemonic = runs::beginning(code);
     if mnemonic != NOTHING {
-        return of_mnemonic(code, first, second, mnemonic);
+        return of_mnemonic(code, mnemonic);
     }
-    if parts::byte(code, second) == b'=' {
-        return of_setting(code, first, second);
+    let first = runs::first(code);
+    let run = runs::at(code, first);
+    if parts::byte(code, runs::second(code)) != b'=' {
+        return at(first, of_word(run));
     }
-    if Variable::number_of(runs::key(run)) != 0 {
-        return at(first, NO_EQUALS);
+    if of_run(run, false) != NOTHING {
+        return at(first, ONE_LETTER);
     }
-    at(first, NO_STATEMENT)
+    of_setting(code)
+}
+
+// The first byte that stands wrong on a line.
+fn of_mark(line: &[u8], code: usize) -> Hint {
+    let place = marks::first(line, code);
+    at(place, marks::at(line, code, place))
+}
+
+// The first run that is wrong on a line.
+fn of_first_run(code: &[u8]) -> Hint {
+    let first = runs::first(code);
+    let place = first_meant(code, code, first, Reading::BAD_FORM);
+    at(place, of_run(runs::at(code, place), place == first))
 }
 
 // What is wrong on a line that is no statement: a byte, a run, or how it begins.
-fn of_form(line: &[u8], code: &[u8], first: usize, second: usize) -> Hint {
-    let mark = marks::first(line, code.len());
-    let wrong = marks::at(line, code.len(), mark);
-    if wrong != NOTHING {
-        return at(mark, wrong);
+fn of_form(line: &[u8], code: &[u8]) -> Hint {
+    let mark = of_mark(line, code.len());
+    if mark.number != NOTHING {
+        return mark;
     }
-    let place = first_meant(line, code, first, Reading::BAD_FORM);
-    let number = of_run(runs::at(code, place), place == first);
-    if number != NOTHING {
-        return at(place, number);
+    let run = of_first_run(code);
+    if run.number != NOTHING {
+        return run;
     }
-    of_beginning(code, first, second)
+    of_beginning(code)
+}
+
+// Where a line gets a refusal, other than for its form.
+fn place_of(text: &[u8], code: &[u8], refusal: u8) -> usize {
+    match refusal {
+        Reading::LONG_LINE => text::Span::LONGEST,
+        Reading::BIG_LITERAL => first_meant(text, code, 0, refusal),
+        Reading::RESERVED_NAME => runs::second(code),
+        REPEATED => runs::second(code),
+        UNKNOWN => first_meant(text, code, label_place(code), refusal),
+        STORED => stored_place(code),
+        _ => runs::first(code),
+    }
+}
+
+// What is wrong at that place.
+fn number_of(text: &[u8], code: &[u8], place: usize, refusal: u8) -> u32 {
+    match refusal {
+        REPEATED => DECLARED_ON,
+        UNKNOWN => of_user(text, runs::at(code, place), place == label_place(code)),
+        STORED => READ_ONLY,
+        _ => NOTHING,
+    }
 }
 
 // What is wrong on a line of a text that gets a refusal.
 pub fn of_line(text: &[u8], line: &[u8], refusal: u8) -> Hint {
     let code = parts::code(line);
-    let first = parts::past_blanks(code, 0);
-    let second = parts::past_blanks(code, runs::end(code, first));
-    match refusal {
-        Reading::LONG_LINE => at(text::Span::LONGEST, NOTHING),
-        Reading::BAD_FORM => of_form(line, code, first, second),
-        Reading::BIG_LITERAL => at(first_meant(text, code, first, refusal), NOTHING),
-        Reading::RESERVED_NAME => at(second, NOTHING),
-        REPEATED => repeated(text, code, second),
-        UNKNOWN => unknown(text, code, first, second),
-        STORED => stored(code, first, second),
-        _ => at(first, NOTHING),
+    if refusal == Reading::BAD_FORM {
+        return of_form(line, code);
     }
+    let place = place_of(text, code, refusal);
+    let number = number_of(text, code, place, refusal);
+    if number == NOTHING {
+        return at(place, NOTHING);
+    }
+    named(text, runs::key(runs::at(code, place)), place, number)
 }

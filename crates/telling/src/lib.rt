@@ -121,19 +121,20 @@ fn put_if(test: bool, page: &mut Page, held: usize, b: u8) -> usize {
 
 // What a number of an answer means: as a refusal, as an error and as an end.
 pub fn explain(page: &mut Page, number: u32) -> usize {
-    let mut held = put_explained(page, 0, words::REFUSAL, number);
-    held = put_explained(page, held, words::ERROR, number);
-    put_explained(page, held, words::END, number)
+    let mut held = explained(words::REFUSAL, number).onto(page, 0);
+    held = explained(words::ERROR, number).onto(page, held);
+    explained(words::END, number).onto(page, held)
 }
 
 // The line for a number of a kind, if there is one, and an example below it; an end needs none.
-fn put_explained(page: &mut Page, held: usize, kind: u8, number: u32) -> usize {
+fn explained(kind: u8, number: u32) -> Line {
+    let line = Line::empty();
     if words::line_for(kind, number) == words::SIZE {
-        return held;
+        return line;
     }
-    let mut line = words(Line::empty(), kind, number).end();
-    if kind != words::END {
-        line = meaning(line.spaces(4), words::SAMPLE, number).end();
+    let told = words(line, kind, number).end();
+    if kind == words::END {
+        return told;
     }
-    line.onto(page, held)
+    meaning(told.spaces(4), words::SAMPLE, number).end()
 }

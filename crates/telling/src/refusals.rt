@@ -26,9 +26,16 @@ fn colon(line: Line) -> Line {
     crate::part(line, words::COLON)
 }
 
-// The words of a refusal, to the end of the line.
+// What is said by a number, to the end of the line: a refusal, or a fault of a script, which has no number for people.
+fn said(line: Line, kind: u8, number: u8) -> Line {
+    if kind == words::SCRIPT {
+        return crate::meaning(line, kind, number as u32).end();
+    }
+    crate::words(line, kind, number as u32).end()
+}
+
 fn refusal(line: Line, number: u8) -> Line {
-    crate::words(line, words::REFUSAL, number as u32).end()
+    said(line, words::REFUSAL, number)
 }
 
 // A line of a file, set in.
@@ -71,12 +78,18 @@ fn put_behind(page: &mut Page, before: usize, path: &[u8], line: Line) -> usize 
     line.onto(page, held)
 }
 
+// What is said of a line, with the line itself and a hint.
+fn shown(wrong: &[u8], line: usize, kind: u8, number: u8, hint: Hint) -> Line {
+    let told = said(place(line, hint.column), kind, number);
+    hinted(set_in(told, wrong), hint)
+}
+
 // A refusal of a whole file.
 pub fn put(page: &mut Page, path: &[u8], number: u8) -> usize {
     put_behind(page, 0, path, refusal(nowhere(), number))
 }
 
-// A refusal of a line, with the line itself and a hint, behind what the page holds.
+// A refusal of a line, behind what the page holds.
 pub fn put_of_line(
     page: &mut Page,
     before: usize,
@@ -87,8 +100,8 @@ pub fn put_of_line(
 ) -> usize {
     let wrong = parts::line(text, line);
     let hint = hints::of_line(text, wrong, number);
-    let told = refusal(place(line, hint.column), number);
-    put_behind(page, before, path, hinted(set_in(told, wrong), hint))
+    let told = shown(wrong, line, words::REFUSAL, number, hint);
+    put_behind(page, before, path, told)
 }
 
 // The fault of the line behind so many others, where it has one and not enough are shown.
@@ -118,16 +131,17 @@ fn counted(count: usize, fault: u8) -> usize {
     count
 }
 
-// How many lines are faulty, where that is more than one.
-fn put_count(page: &mut Page, held: usize, count: usize) -> usize {
+// How many lines are faulty, where that is more than one; else nothing.
+fn counted_lines(count: usize) -> Line {
+    let line = Line::empty();
     if count < 2 {
-        return held;
+        return line;
     }
-    let mut line = crate::part(Line::empty().number(count as u64), words::FAULTY);
+    let told = line.number(count as u64);
     if MOST_SHOWN < count {
-        line = crate::part(line, words::FIRST_TEN);
+        return crate::part(told, words::FIRST_TEN).end();
     }
-    line.end().onto(page, held)
+    crate::part(told, words::FAULTY).end()
 }
 
 // The first faulty lines of a text, by the fault of each of its lines, 0 where it has none; and how many there are.
@@ -139,13 +153,17 @@ pub fn put_faults(page: &mut Page, path: &[u8], text: &[u8], faults: &[u8]) -> u
         held = put_fault(page, held, path, text, i + 1, fault, count);
         count = counted(count, fault);
     }
-    put_count(page, held, count)
+    counted_lines(count).onto(page, held)
 }
 
 // A refusal of an image, with what was given in its place.
 pub fn put_of_image(page: &mut Page, path: &[u8], image: &[u8], number: u8) -> usize {
-    let told = refusal(nowhere(), number);
-    put_behind(page, 0, path, hinted(told, given::instead(image, number)))
+    put_behind(page, 0, path, of_image(image, number))
+}
+
+fn of_image(image: &[u8], number: u8) -> Line {
+    let hint = given::instead(image, number);
+    hinted(refusal(nowhere(), number), hint)
 }
 
 // A refusal of an event that was given as bytes, and why it is bad.
@@ -156,9 +174,13 @@ pub fn put_of_event(
     index: usize,
     number: u8,
 ) -> usize {
-    let event = colon(crate::part_number(nowhere(), words::EVENT, index as u64));
+    put_behind(page, 0, path, of_event(events, index, number))
+}
+
+fn of_event(events: &[u8], index: usize, number: u8) -> Line {
     let hint = hints::at(0, given::fault(events, index));
-    put_behind(page, 0, path, hinted(refusal(event, number), hint))
+    let told = crate::part_number(nowhere(), words::EVENT, index as u64);
+    hinted(refusal(colon(told), number), hint)
 }
 
 // A refusal of an event that was given on a line of a script, and why it is bad.
@@ -172,33 +194,36 @@ pub fn put_of_script_event(
     number: u8,
 ) -> usize {
     let wrong = parts::line(text, line);
-    let fault = given::fault(events, index);
-    let word = given::word_at_fault(fault);
-    let hint = hints::at(parts::word_place(parts::code(wrong), word), fault);
-    let told = refusal(place(line, hint.column), number);
-    put_behind(page, 0, path, hinted(set_in(told, wrong), hint))
+    let hint = given::on_line(wrong, events, index);
+    let told = shown(wrong, line, words::REFUSAL, number, hint);
+    put_behind(page, 0, path, told)
 }
 
 // A refusal of the turns.
 pub fn put_of_turns(page: &mut Page, turns: &[u8], number: u8) -> usize {
-    let line = crate::part(Line::empty(), words::TURNS_ASKED);
-    put_behind(page, 0, turns, refusal(line, number))
+    put_behind(page, 0, turns, of_turns(number))
+}
+
+fn of_turns(number: u8) -> Line {
+    refusal(crate::part(Line::empty(), words::TURNS_ASKED), number)
 }
 
 // A fault of a script, with its line.
 pub fn put_of_script(page: &mut Page, path: &[u8], text: &[u8], line: usize, fault: u8) -> usize {
     let wrong = parts::line(text, line);
-    let hint = hints::at(scripts::place_of_fault(parts::code(wrong), fault), 0);
-    let told = crate::meaning(place(line, hint.column), words::SCRIPT, fault as u32).end();
-    put_behind(page, 0, path, set_in(told, wrong))
+    let hint = given::in_script(wrong, fault);
+    let told = shown(wrong, line, words::SCRIPT, fault, hint);
+    put_behind(page, 0, path, told)
 }
 
 // What is wrong with a word or a file that was given.
 pub fn put_of_use(page: &mut Page, given: &[u8], number: u32) -> usize {
     let held = put_trouble(page, given);
-    crate::meaning(nowhere(), words::USAGE, number)
-        .end()
-        .onto(page, held)
+    of_use(number).onto(page, held)
+}
+
+fn of_use(number: u32) -> Line {
+    crate::meaning(nowhere(), words::USAGE, number).end()
 }
 
 // The tool's name and a file's, for what the system says of it.

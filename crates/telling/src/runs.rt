@@ -56,12 +56,17 @@ pub fn key(run: &[u8]) -> u16 {
     numbers::read2(run, 0)
 }
 
+// The place of a mnemonic among them, from 1; 0 for any other key.
+fn place_of(key: u16) -> usize {
+    place_in(&MNEMONICS, key)
+}
+
 // The hint at what a mnemonic takes, where a run is one, or one with a number directly behind it; else 0.
 pub fn mnemonic(run: &[u8]) -> u32 {
     if (WORD < run.len()) & !is_digit(parts::byte(run, WORD)) {
         return 0;
     }
-    let place = place_in(&MNEMONICS, numbers::read2(run, 0));
+    let place = place_of(numbers::read2(run, 0));
     if place == 0 {
         return 0;
     }
@@ -69,6 +74,20 @@ pub fn mnemonic(run: &[u8]) -> u32 {
         return 0;
     }
     TAKES + (place as u32)
+}
+
+// The place of the first run of a line, and of what stands behind it.
+pub fn first(code: &[u8]) -> usize {
+    parts::past_blanks(code, 0)
+}
+
+pub fn second(code: &[u8]) -> usize {
+    parts::past_blanks(code, end(code, first(code)))
+}
+
+// The mnemonic that a line begins with, by its hint.
+pub fn beginning(code: &[u8]) -> u32 {
+    mnemonic(at(code, first(code)))
 }
 
 // The mnemonics that a label's name stands behind, by their hints.
