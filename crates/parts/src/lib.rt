@@ -29,6 +29,14 @@ pub fn between<'a>(bytes: &'a [u8], start: usize, end: usize) -> &'a [u8] {
     back(front(bytes, end), start)
 }
 
+// The byte at a place; 0 past the end.
+pub fn byte(bytes: &[u8], at: usize) -> u8 {
+    if at < bytes.len() {
+        return bytes[at];
+    }
+    0
+}
+
 // One of two.
 pub fn either<'a>(first: bool, a: &'a [u8], b: &'a [u8]) -> &'a [u8] {
     if first { a } else { b }
@@ -70,9 +78,9 @@ pub fn is_blank(b: u8) -> bool {
     (b == b' ') | (b == b'\t')
 }
 
-// How many blanks a line begins with.
-pub fn blanks(line: &[u8]) -> usize {
-    let mut i: usize = 0;
+// The place of the first byte that is no blank, from a place on.
+pub fn past_blanks(line: &[u8], at: usize) -> usize {
+    let mut i = at;
     while i < line.len() {
         if !is_blank(line[i]) {
             return i;
@@ -82,9 +90,9 @@ pub fn blanks(line: &[u8]) -> usize {
     i
 }
 
-// How many bytes a line has before its first blank.
-fn unbroken(line: &[u8]) -> usize {
-    let mut i: usize = 0;
+// The place of the first blank, from a place on.
+fn past_word(line: &[u8], at: usize) -> usize {
+    let mut i = at;
     while i < line.len() {
         if is_blank(line[i]) {
             return i;
@@ -96,19 +104,33 @@ fn unbroken(line: &[u8]) -> usize {
 
 // A line from its first word on.
 fn begun<'a>(line: &'a [u8]) -> &'a [u8] {
-    back(line, blanks(line))
+    back(line, past_blanks(line, 0))
 }
 
 // The first word of a line; empty where it has none.
 pub fn word<'a>(line: &'a [u8]) -> &'a [u8] {
     let rest = begun(line);
-    front(rest, unbroken(rest))
+    front(rest, past_word(rest, 0))
 }
 
 // What stands behind the first word.
 pub fn behind<'a>(line: &'a [u8]) -> &'a [u8] {
     let rest = begun(line);
-    back(rest, unbroken(rest))
+    back(rest, past_word(rest, 0))
+}
+
+// The place of a word of a line by its number, from 0; that of the line's end where there are fewer.
+pub fn word_place(line: &[u8], number: usize) -> usize {
+    let mut at = past_blanks(line, 0);
+    for _ in 0..number {
+        at = past_blanks(line, past_word(line, at));
+    }
+    at
+}
+
+// The word at a place.
+pub fn word_at<'a>(line: &'a [u8], at: usize) -> &'a [u8] {
+    between(line, at, past_word(line, at))
 }
 
 // How many bytes a line has up to its last that is no blank.

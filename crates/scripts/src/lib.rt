@@ -44,6 +44,9 @@ const MOST_BELOW: u64 = 2147483648;
 
 const MOST_ABOVE: u64 = 2147483647;
 
+// How many words the longest event has.
+const MOST_WORDS: usize = 4;
+
 // How many numbers 32 digits can write.
 const WRAP: u64 = 4294967296;
 
@@ -236,6 +239,47 @@ fn say(line: &[u8]) -> Said {
     let rest = parts::behind(line);
     let kind = words::number_for(words::KIND_OF_EVENT, parts::word(rest));
     event_of(number_of(first), kind, parts::behind(rest))
+}
+
+// Which word of an event of a kind is its value; 0 where it has none.
+fn value_word(kind: u32) -> usize {
+    if kind == (Event::INPUT as u32) {
+        return 3;
+    }
+    if kind == (Event::PLACE as u32) {
+        return 2;
+    }
+    0
+}
+
+// The fault of a word by its number on a line with an event of this kind.
+fn fault_of_word(kind: u32, number: usize, word: &[u8]) -> u8 {
+    if number == 0 {
+        return number_of(word).fault_over(MOST_TURN);
+    }
+    if (number == 1) & (kind != 0) {
+        return NO_FAULT;
+    }
+    if number == value_word(kind) {
+        return number_of(word).fault_of_value();
+    }
+    if (number == 2) & (kind == (Event::INPUT as u32)) {
+        return number_of(word).fault_over(MOST_NUMBER);
+    }
+    BAD_FORM
+}
+
+// The place of the first word of a line, without its comment, that has this fault; of its first word where none has.
+pub fn place_of_fault(line: &[u8], fault: u8) -> usize {
+    let kind = words::number_for(words::KIND_OF_EVENT, parts::word(parts::behind(line)));
+    for number in 0..MOST_WORDS + 1 {
+        let at = parts::word_place(line, number);
+        let word = parts::word_at(line, at);
+        if (word.len() != 0) & (fault_of_word(kind, number, word) == fault) {
+            return at;
+        }
+    }
+    parts::past_blanks(line, 0)
 }
 
 // Writes an event behind those before it. What there is no room for is left out: a script that fills the room has more events than it may.

@@ -1,29 +1,29 @@
-// What is wrong on a line that no statement's form fits, as far as can be told.
+// What is wrong on a line of a text, as far as can be told, and where.
+use crate::marks;
+use crate::marks::NOTHING;
+use crate::runs;
 use program::Variable;
-use program::names;
+use program::names::is_digit;
+use program::names::is_letter;
+use program::names::is_reserved;
+use reading::Reading;
 
-// The column of what is wrong, from 1, and the number of its words.
+// The column of what is wrong, from 1; the number of its words, 0 where there are none; and the name and the number that they speak of.
 pub struct Hint {
     pub column: usize,
     pub number: u32,
+    pub name: u16,
+    pub value: usize,
 }
 
-const NOTHING: u32 = 0;
+// The refusals of a line that point at more than its beginning; those of a line by itself are known to its reading.
+const REPEATED: u8 = 6;
 
-const TAB: u32 = 1;
+const UNKNOWN: u8 = 8;
 
-const CARRIAGE_RETURN: u32 = 2;
+const STORED: u8 = 9;
 
-const CONTROL: u32 = 3;
-
-const NOT_PLAIN: u32 = 4;
-
-const SMALL_LETTER: u32 = 5;
-
-const QUOTE: u32 = 6;
-
-const OTHER_MARK: u32 = 7;
-
+// The words on a line that is no statement.
 const LONG_WORD: u32 = 8;
 
 const LONG_NUMBER: u32 = 9;
@@ -34,179 +34,327 @@ const NO_EQUALS: u32 = 11;
 
 const NO_FORM: u32 = 12;
 
-// The longest words and runs of digits.
-const WORD: usize = 2;
+const ONE_LETTER: u32 = 22;
 
+const SECOND_OPERATOR: u32 = 23;
+
+const NUMBER_FOR_LABEL: u32 = 24;
+
+// The words on names: the name stands behind the first of them, and in front of the others.
+pub const UNDECLARED: u32 = 39;
+
+const IS_VARIABLE: u32 = 40;
+
+const IS_LABEL: u32 = 41;
+
+pub const DECLARED_ON: u32 = 42;
+
+const READ_ONLY: u32 = 43;
+
+// The longest runs of digits.
 const DIGITS: usize = 10;
 
-const EQUALS: u16 = b'=' as u16;
+const ZERO: u16 = b'0' as u16;
 
-// A byte that may stand nowhere in a line.
-fn of_byte(b: u8) -> u32 {
-    if b == b'\t' {
-        return TAB;
+const HIGHEST: u64 = Variable::HIGHEST_LITERAL as u64;
+
+// What is wrong at a place of a line.
+pub fn at(place: usize, number: u32) -> Hint {
+    Hint {
+        column: column(place),
+        number,
+        name: 0,
+        value: 0,
     }
-    if b == b'\r' {
-        return CARRIAGE_RETURN;
-    }
-    if b < b' ' {
-        return CONTROL;
-    }
-    if b'~' < b {
-        return NOT_PLAIN;
-    }
-    NOTHING
 }
 
-// A character that may stand in a comment alone.
-fn of_character(b: u8) -> u32 {
-    if (b'a' <= b) & (b <= b'z') {
-        return SMALL_LETTER;
-    }
-    if b == b'"' {
-        return QUOTE;
-    }
-    if (b == b'`') | (b == b'\\') {
-        return OTHER_MARK;
-    }
-    NOTHING
-}
-
-// The first such byte of a line, and the first such character of what stands before its comment.
-fn first_byte(line: &[u8]) -> Hint {
-    let mut i: usize = 0;
-    while i < line.len() {
-        let number = of_byte(line[i]);
-        if number != NOTHING {
-            return Hint {
-                column: i + 1,
-                number,
-            };
-        }
-        i += 1;
+// What is wrong with a name at a place of a line, and for one that is declared before, where.
+fn named(text: &[u8], name: u16, place: usize, number: u32) -> Hint {
+    let mut value: usize = 0;
+    if number == DECLARED_ON {
+        value = declaring(text, name);
     }
     Hint {
-        column: 0,
-        number: NOTHING,
+        column: column(place),
+        number,
+        name,
+        value,
     }
 }
 
-fn first_character(code: &[u8]) -> Hint {
-    let mut i: usize = 0;
-    while i < code.len() {
-        let number = of_character(code[i]);
-        if number != NOTHING {
-            return Hint {
-                column: i + 1,
-                number,
-            };
-        }
-        i += 1;
+// The column of a place on a line; none is far behind the longest.
+fn column(place: usize) -> usize {
+    if place <= text::Span::LONGEST {
+        return place + 1;
     }
-    Hint {
-        column: 0,
-        number: NOTHING,
-    }
+    1
 }
 
-// How many letters and digits stand together from a place on.
-fn run_length(code: &[u8], start: usize) -> usize {
-    let mut i = start;
-    let mut length: usize = 0;
-    while i < code.len() {
-        if !(names::is_letter(code[i]) | names::is_digit(code[i])) {
-            return length;
-        }
-        i += 1;
-        length += 1;
+// What is wrong with a run on a line that is no statement: it is too long, or too short for a name. A first run may be a mnemonic.
+fn of_run(run: &[u8], is_first: bool) -> u32 {
+    let first = parts::byte(run, 0);
+    if is_first & (runs::mnemonic(run) != NOTHING) {
+        return NOTHING;
     }
-    length
-}
-
-// A run that is too long for a word, or for a number.
-fn of_run(first: u8, length: usize) -> u32 {
-    if names::is_letter(first) & (WORD < length) {
+    if is_digit(first) {
+        return of_number(run.len());
+    }
+    if runs::WORD < run.len() {
         return LONG_WORD;
     }
-    if names::is_digit(first) & (DIGITS < length) {
+    if (run.len() == 1) & !is_first & !is_reserved(first as u16) {
+        return ONE_LETTER;
+    }
+    NOTHING
+}
+
+// What is wrong with so many digits.
+fn of_number(length: usize) -> u32 {
+    if DIGITS < length {
         return LONG_NUMBER;
     }
     NOTHING
 }
 
-// A word or a number begins at a place: what stands before it belongs to none.
-fn begins(code: &[u8], i: usize) -> bool {
-    if i == 0 {
-        return true;
-    }
-    if code.len() <= i {
-        return false;
-    }
-    let before = code[i - 1];
-    !(names::is_letter(before) | names::is_digit(before))
+// A number that is no literal.
+fn is_big(run: &[u8]) -> bool {
+    let number = scripts::digits(run);
+    HIGHEST < number.size
 }
 
-// The first such run.
-fn first_run(code: &[u8]) -> Hint {
+// How a name is declared that is wanted as a label or as a variable; nothing where it is so.
+fn of_kind(found: u8, wanted: u8) -> u32 {
+    if found == wanted {
+        return NOTHING;
+    }
+    match found {
+        Reading::LABEL => IS_LABEL,
+        Reading::DECLARED => IS_VARIABLE,
+        _ => UNDECLARED,
+    }
+}
+
+// How the name is declared that a run is, if it is one of the user's: a label's, or else a variable's.
+fn of_user(text: &[u8], run: &[u8], is_label: bool) -> u32 {
+    let key = runs::key(run);
+    if !is_letter(parts::byte(run, 0)) | is_reserved(key) {
+        return NOTHING;
+    }
+    let found = names::declared_as(text, key);
+    if is_label {
+        return of_kind(found, Reading::LABEL);
+    }
+    of_kind(found, Reading::DECLARED)
+}
+
+// Whether a run is what a refusal points at. One run of the line is told apart: its first, or the name of a label.
+fn is_meant(text: &[u8], run: &[u8], is_apart: bool, refusal: u8) -> bool {
+    if refusal == Reading::BAD_FORM {
+        return of_run(run, is_apart) != NOTHING;
+    }
+    if refusal == Reading::BIG_LITERAL {
+        return is_big(run);
+    }
+    of_user(text, run, is_apart) != NOTHING
+}
+
+// The place of the first such run; the length of the code where there is none.
+fn first_meant(text: &[u8], code: &[u8], apart: usize, refusal: u8) -> usize {
     let mut i: usize = 0;
     while i < code.len() {
-        let number = of_run(code[i], run_length(code, i));
-        if (number != NOTHING) & begins(code, i) {
-            return Hint {
-                column: i + 1,
-                number,
-            };
+        if runs::begins(code, i) & is_meant(text, runs::at(code, i), i == apart, refusal) {
+            return i;
         }
         i += 1;
     }
-    Hint {
-        column: 0,
-        number: NOTHING,
+    i
+}
+
+// The place of a label's name that a line jumps to; the length of the code where it jumps nowhere.
+fn label_place(code: &[u8]) -> usize {
+    if runs::wants_label(runs::beginning(code)) {
+        return runs::second(code);
+    }
+    code.len()
+}
+
+// The place of the name that a line stores to: behind a mnemonic, or in front.
+fn stored_place(code: &[u8]) -> usize {
+    if runs::beginning(code) != NOTHING {
+        return runs::second(code);
+    }
+    runs::first(code)
+}
+
+// Whether a line declares a name.
+fn declares(line: &[u8], key: u16) -> bool {
+    let reading = reading::read_line(line);
+    reading.name == key
+}
+
+// The first line of a text, from 1, that declares a name; 0 where there is none.
+fn declaring(text: &[u8], key: u16) -> usize {
+    let mut line: usize = 1;
+    let mut at: usize = 0;
+    while at < text.len() {
+        let span = text::line_at(text, at);
+        if declares(parts::between(text, at, span.end), key) {
+            return line;
+        }
+        line += 1;
+        at = span.next;
+    }
+    0
+}
+
+fn is_operator(b: u8) -> bool {
+    match b {
+        b'+' => true,
+        b'-' => true,
+        b'*' => true,
+        b'/' => true,
+        b'&' => true,
+        b'|' => true,
+        b'^' => true,
+        _ => false,
     }
 }
 
-// How the line begins: with a word that no statement begins with, or with a variable and no equals sign.
-fn of_beginning(code: &[u8]) -> u32 {
-    let tokens = text::tokens::read_tokens(code);
-    let first = tokens.token(0);
-    let second = tokens.token(1);
-    if second.key == EQUALS {
-        return NO_FORM;
+// The place behind a minus that stands at a place, or the place itself.
+fn past_minus(code: &[u8], at: usize) -> usize {
+    if parts::byte(code, at) != b'-' {
+        return at;
     }
-    if Variable::number_of(first.key) != 0 {
+    if code.len() <= at {
+        return at;
+    }
+    at + 1
+}
+
+// The place behind the operand that follows a sign.
+fn behind_operand(code: &[u8], sign: usize) -> usize {
+    if code.len() <= sign {
+        return sign;
+    }
+    let start = past_minus(code, parts::past_blanks(code, sign + 1));
+    parts::past_blanks(code, runs::end(code, start))
+}
+
+fn has_operator(code: &[u8], place: usize) -> bool {
+    is_operator(parts::byte(code, place))
+}
+
+// A line with an equals sign behind its first run.
+fn of_setting(code: &[u8]) -> Hint {
+    let operator = behind_operand(code, runs::second(code));
+    let next = behind_operand(code, operator);
+    if has_operator(code, operator) & has_operator(code, next) {
+        return at(next, SECOND_OPERATOR);
+    }
+    at(runs::first(code), NO_FORM)
+}
+
+// A line that begins with a mnemonic.
+fn of_mnemonic(code: &[u8], mnemonic: u32) -> Hint {
+    let run = runs::at(code, runs::second(code));
+    if runs::wants_label(mnemonic) & is_number_for_label(run, mnemonic) {
+        return at(runs::second(code), NUMBER_FOR_LABEL);
+    }
+    at(runs::first(code), mnemonic)
+}
+
+// A number, other than the one that OE takes.
+fn is_number_for_label(run: &[u8], mnemonic: u32) -> bool {
+    if (mnemonic == runs::OE) & (runs::key(run) == ZERO) {
+        return false;
+    }
+    is_digit(parts::byte(run, 0))
+}
+
+// How a line begins that is no statement, and neither with a mnemonic nor with what is set.
+fn of_word(run: &[u8]) -> u32 {
+    if Variable::number_of(runs::key(run)) != 0 {
         return NO_EQUALS;
-    }
-    if names::is_reserved(first.key) {
-        return NO_FORM;
     }
     NO_STATEMENT
 }
 
-// What is wrong on a line, the plainest first.
-pub fn find(line: &[u8]) -> Hint {
-    let byte = first_byte(line);
-    if byte.number != NOTHING {
-        return byte;
+// How a line begins that is no statement.
+fn of_beginning(code: &[u8]) -> Hint {
+    let mnemonic = runs::beginning(code);
+    if mnemonic != NOTHING {
+        return of_mnemonic(code, mnemonic);
     }
-    let code = parts::code(line);
-    let character = first_character(code);
-    if character.number != NOTHING {
-        return character;
+    let first = runs::first(code);
+    let run = runs::at(code, first);
+    if parts::byte(code, runs::second(code)) != b'=' {
+        return at(first, of_word(run));
     }
-    let run = first_run(code);
+    if of_run(run, false) != NOTHING {
+        return at(first, ONE_LETTER);
+    }
+    of_setting(code)
+}
+
+// The first byte that stands wrong on a line.
+fn of_mark(line: &[u8], code: usize) -> Hint {
+    let place = marks::first(line, code);
+    at(place, marks::at(line, code, place))
+}
+
+// The first run that is wrong on a line.
+fn of_first_run(code: &[u8]) -> Hint {
+    let first = runs::first(code);
+    let place = first_meant(code, code, first, Reading::BAD_FORM);
+    at(place, of_run(runs::at(code, place), place == first))
+}
+
+// What is wrong on a line that is no statement: a byte, a run, or how it begins.
+fn of_form(line: &[u8], code: &[u8]) -> Hint {
+    let mark = of_mark(line, code.len());
+    if mark.number != NOTHING {
+        return mark;
+    }
+    let run = of_first_run(code);
     if run.number != NOTHING {
         return run;
     }
-    Hint {
-        column: within(parts::blanks(code)),
-        number: of_beginning(code),
+    of_beginning(code)
+}
+
+// Where a line gets a refusal, other than for its form.
+fn place_of(text: &[u8], code: &[u8], refusal: u8) -> usize {
+    match refusal {
+        Reading::LONG_LINE => text::Span::LONGEST,
+        Reading::BIG_LITERAL => first_meant(text, code, 0, refusal),
+        Reading::RESERVED_NAME => runs::second(code),
+        REPEATED => runs::second(code),
+        UNKNOWN => first_meant(text, code, label_place(code), refusal),
+        STORED => stored_place(code),
+        _ => runs::first(code),
     }
 }
 
-// The column of a place on a line.
-fn within(place: usize) -> usize {
-    if place < text::Span::LONGEST {
-        return place + 1;
+// What is wrong at that place.
+fn number_of(text: &[u8], code: &[u8], place: usize, refusal: u8) -> u32 {
+    match refusal {
+        REPEATED => DECLARED_ON,
+        UNKNOWN => of_user(text, runs::at(code, place), place == label_place(code)),
+        STORED => READ_ONLY,
+        _ => NOTHING,
     }
-    1
+}
+
+// What is wrong on a line of a text that gets a refusal.
+pub fn of_line(text: &[u8], line: &[u8], refusal: u8) -> Hint {
+    let code = parts::code(line);
+    if refusal == Reading::BAD_FORM {
+        return of_form(line, code);
+    }
+    let place = place_of(text, code, refusal);
+    let number = number_of(text, code, place, refusal);
+    if number == NOTHING {
+        return at(place, NOTHING);
+    }
+    named(text, runs::key(runs::at(code, place)), place, number)
 }

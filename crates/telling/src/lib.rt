@@ -1,11 +1,17 @@
 // What the tool says, put into lines: words, and bytes of files as people can read them.
-pub mod hints;
+mod given;
+mod hints;
+mod marks;
 pub mod refusals;
+mod runs;
 pub mod state;
 pub mod trace;
 
 use writing::Line;
 use writing::Page;
+
+// How many values a character of a name has.
+const BYTE: u16 = 256;
 
 // How much of a line of a file is shown.
 const MOST_SHOWN: usize = 100;
@@ -36,6 +42,15 @@ pub fn name(page: &mut Page, before: usize, path: &[u8]) -> usize {
         held = plain(Line::empty(), path[i]).onto(page, held);
     }
     held
+}
+
+// The name of a label or of a variable, by its key.
+pub fn key(mut line: Line, key: u16) -> Line {
+    line = line.byte((key % BYTE) as u8);
+    if key < BYTE {
+        return line;
+    }
+    line.byte((key / BYTE) as u8)
 }
 
 // A line of the table of words, from a place in it on.
@@ -84,4 +99,42 @@ pub fn help(page: &mut Page) -> usize {
         held = writing::put_byte(page, held, words::help_letter(i));
     }
     held
+}
+
+// What the text on the tool's use says on one command.
+pub fn help_of(page: &mut Page, command: u32) -> usize {
+    let mut held: usize = 0;
+    let mut shown = false;
+    for i in 0..words::HELP_SIZE {
+        shown = words::is_on_command(i, command, shown);
+        held = put_if(shown, page, held, words::help_letter(i));
+    }
+    held
+}
+
+fn put_if(test: bool, page: &mut Page, held: usize, b: u8) -> usize {
+    if test {
+        return writing::put_byte(page, held, b);
+    }
+    held
+}
+
+// What a number of an answer means: as a refusal, as an error and as an end.
+pub fn explain(page: &mut Page, number: u32) -> usize {
+    let mut held = explained(words::REFUSAL, number).onto(page, 0);
+    held = explained(words::ERROR, number).onto(page, held);
+    explained(words::END, number).onto(page, held)
+}
+
+// The line for a number of a kind, if there is one, and an example below it; an end needs none.
+fn explained(kind: u8, number: u32) -> Line {
+    let line = Line::empty();
+    if words::line_for(kind, number) == words::SIZE {
+        return line;
+    }
+    let told = words(line, kind, number).end();
+    if kind == words::END {
+        return told;
+    }
+    meaning(told.spaces(4), words::SAMPLE, number).end()
 }

@@ -1,90 +1,229 @@
-// Refusals and faults, as a compiler tells them: the file, the line, the number with its words, and the line itself.
+// Refusals and faults, as a compiler tells them: the file, the line and the column, the number with its words, the line itself, and a hint.
+use crate::given;
 use crate::hints;
+use crate::hints::Hint;
 use writing::Line;
 use writing::Page;
 
-const BAD_FORM: u8 = 3;
+// How many faulty lines of a text are shown.
+const MOST_SHOWN: usize = 10;
 
-// What stands behind the name of a file: `:line: `, or `: ` where no line is meant.
-fn place(number: usize) -> Line {
-    if number == 0 {
-        return colon(Line::empty());
-    }
-    colon(Line::empty().byte(b':').number(number as u64))
+// How far lines of files and hints are set in.
+const SET_IN: usize = 4;
+
+// What stands behind the name of a file where no line is meant.
+fn nowhere() -> Line {
+    colon(Line::empty())
+}
+
+// The same where a line and a column are meant: `:line:column: `.
+fn place(line: usize, column: usize) -> Line {
+    let told = Line::empty().byte(b':').number(line as u64);
+    colon(told.byte(b':').number(column as u64))
 }
 
 fn colon(line: Line) -> Line {
     crate::part(line, words::COLON)
 }
 
-// The words of a refusal, to the end of the line.
+// What is said by a number, to the end of the line: a refusal, or a fault of a script, which has no number for people.
+fn said(line: Line, kind: u8, number: u8) -> Line {
+    if kind == words::SCRIPT {
+        return crate::meaning(line, kind, number as u32).end();
+    }
+    crate::words(line, kind, number as u32).end()
+}
+
 fn refusal(line: Line, number: u8) -> Line {
-    crate::words(line, words::REFUSAL, number as u32).end()
+    said(line, words::REFUSAL, number)
 }
 
 // A line of a file, set in.
 fn set_in(line: Line, shown: &[u8]) -> Line {
-    crate::shown(line.spaces(4), shown).end()
+    crate::shown(line.spaces(SET_IN), shown).end()
 }
 
-// What on the line is wrong.
-fn hint(mut line: Line, wrong: &[u8]) -> Line {
-    let hint = hints::find(wrong);
-    line = colon(crate::part_number(line, words::COLUMN, hint.column as u64));
-    crate::meaning(line, words::HINT, hint.number).end()
-}
-
-// A line with a refusal, and what is wrong on it.
-fn refused(line: Line, wrong: &[u8], number: u8) -> Line {
-    let told = set_in(line, wrong);
-    if number == BAD_FORM {
-        return hint(told, wrong);
+// The name that a hint begins with.
+fn name_before(line: Line, hint: Hint) -> Line {
+    if (hint.name == 0) | (hint.number == hints::UNDECLARED) {
+        return line;
     }
-    told
+    crate::key(line, hint.name).byte(b' ')
 }
 
-// A file's name, and a line behind it.
-fn put_behind(page: &mut Page, path: &[u8], line: Line) -> usize {
-    let held = crate::name(page, 0, path);
+// The name or the number that a hint ends with.
+fn behind(line: Line, hint: Hint) -> Line {
+    if hint.number == hints::UNDECLARED {
+        return crate::key(line.byte(b' '), hint.name);
+    }
+    if (hint.number == hints::DECLARED_ON) | (hint.number == given::EDITION) {
+        return line.byte(b' ').number(hint.value as u64);
+    }
+    line
+}
+
+// A hint, where there is one.
+fn hinted(mut line: Line, hint: Hint) -> Line {
+    if hint.number == 0 {
+        return line;
+    }
+    line = name_before(line.spaces(SET_IN), hint);
+    line = crate::meaning(line, words::HINT, hint.number);
+    behind(line, hint).end()
+}
+
+// A file's name, and a line behind it, behind what the page holds.
+fn put_behind(page: &mut Page, before: usize, path: &[u8], line: Line) -> usize {
+    let held = crate::name(page, before, path);
     line.onto(page, held)
+}
+
+// What is said of a line, with the line itself and a hint.
+fn shown(wrong: &[u8], line: usize, kind: u8, number: u8, hint: Hint) -> Line {
+    let told = said(place(line, hint.column), kind, number);
+    hinted(set_in(told, wrong), hint)
 }
 
 // A refusal of a whole file.
 pub fn put(page: &mut Page, path: &[u8], number: u8) -> usize {
-    put_behind(page, path, refusal(place(0), number))
+    put_behind(page, 0, path, refusal(nowhere(), number))
 }
 
-// A refusal of a line, with the line itself.
-pub fn put_of_line(page: &mut Page, path: &[u8], text: &[u8], line: usize, number: u8) -> usize {
-    let told = refusal(place(line), number);
-    put_behind(page, path, refused(told, parts::line(text, line), number))
+// A refusal of a line, behind what the page holds.
+pub fn put_of_line(
+    page: &mut Page,
+    before: usize,
+    path: &[u8],
+    text: &[u8],
+    line: usize,
+    number: u8,
+) -> usize {
+    let wrong = parts::line(text, line);
+    let hint = hints::of_line(text, wrong, number);
+    let told = shown(wrong, line, words::REFUSAL, number, hint);
+    put_behind(page, before, path, told)
 }
 
-// A refusal of an event that was given as bytes.
-pub fn put_of_event(page: &mut Page, path: &[u8], index: usize, number: u8) -> usize {
-    let line = colon(crate::part_number(place(0), words::EVENT, index as u64));
-    put_behind(page, path, refusal(line, number))
+// The fault of the line behind so many others, where it has one and not enough are shown.
+fn put_fault(
+    page: &mut Page,
+    held: usize,
+    path: &[u8],
+    text: &[u8],
+    line: usize,
+    fault: u8,
+    shown: usize,
+) -> usize {
+    if (fault == 0) | (MOST_SHOWN <= shown) {
+        return held;
+    }
+    put_of_line(page, held, path, text, line, fault)
+}
+
+// How many lines are faulty, with one that has this fault or none.
+fn counted(count: usize, fault: u8) -> usize {
+    if fault == 0 {
+        return count;
+    }
+    if count < usize::MAX {
+        return count + 1;
+    }
+    count
+}
+
+// How many lines are faulty, where that is more than one; else nothing.
+fn counted_lines(count: usize) -> Line {
+    let line = Line::empty();
+    if count < 2 {
+        return line;
+    }
+    let told = line.number(count as u64);
+    if MOST_SHOWN < count {
+        return crate::part(told, words::FIRST_TEN).end();
+    }
+    crate::part(told, words::FAULTY).end()
+}
+
+// The first faulty lines of a text, by the fault of each of its lines, 0 where it has none; and how many there are.
+pub fn put_faults(page: &mut Page, path: &[u8], text: &[u8], faults: &[u8]) -> usize {
+    let mut held: usize = 0;
+    let mut count: usize = 0;
+    for i in 0..faults.len() {
+        let fault = faults[i];
+        held = put_fault(page, held, path, text, i + 1, fault, count);
+        count = counted(count, fault);
+    }
+    counted_lines(count).onto(page, held)
+}
+
+// A refusal of an image, with what was given in its place.
+pub fn put_of_image(page: &mut Page, path: &[u8], image: &[u8], number: u8) -> usize {
+    put_behind(page, 0, path, of_image(image, number))
+}
+
+fn of_image(image: &[u8], number: u8) -> Line {
+    let hint = given::instead(image, number);
+    hinted(refusal(nowhere(), number), hint)
+}
+
+// A refusal of an event that was given as bytes, and why it is bad.
+pub fn put_of_event(
+    page: &mut Page,
+    path: &[u8],
+    events: &[u8],
+    index: usize,
+    number: u8,
+) -> usize {
+    put_behind(page, 0, path, of_event(events, index, number))
+}
+
+fn of_event(events: &[u8], index: usize, number: u8) -> Line {
+    let hint = hints::at(0, given::fault(events, index));
+    let told = crate::part_number(nowhere(), words::EVENT, index as u64);
+    hinted(refusal(colon(told), number), hint)
+}
+
+// A refusal of an event that was given on a line of a script, and why it is bad.
+pub fn put_of_script_event(
+    page: &mut Page,
+    path: &[u8],
+    text: &[u8],
+    line: usize,
+    events: &[u8],
+    index: usize,
+    number: u8,
+) -> usize {
+    let wrong = parts::line(text, line);
+    let hint = given::on_line(wrong, events, index);
+    let told = shown(wrong, line, words::REFUSAL, number, hint);
+    put_behind(page, 0, path, told)
 }
 
 // A refusal of the turns.
 pub fn put_of_turns(page: &mut Page, turns: &[u8], number: u8) -> usize {
-    let line = crate::part(Line::empty(), words::TURNS_ASKED);
-    put_behind(page, turns, refusal(line, number))
+    put_behind(page, 0, turns, of_turns(number))
+}
+
+fn of_turns(number: u8) -> Line {
+    refusal(crate::part(Line::empty(), words::TURNS_ASKED), number)
 }
 
 // A fault of a script, with its line.
 pub fn put_of_script(page: &mut Page, path: &[u8], text: &[u8], line: usize, fault: u8) -> usize {
-    let told = crate::meaning(place(line), words::SCRIPT, fault as u32).end();
-    put_behind(page, path, set_in(told, parts::line(text, line)))
+    let wrong = parts::line(text, line);
+    let hint = given::in_script(wrong, fault);
+    let told = shown(wrong, line, words::SCRIPT, fault, hint);
+    put_behind(page, 0, path, told)
 }
 
 // What is wrong with a word or a file that was given.
 pub fn put_of_use(page: &mut Page, given: &[u8], number: u32) -> usize {
     let held = put_trouble(page, given);
-    let line = colon(Line::empty());
-    crate::meaning(line, words::USAGE, number)
-        .end()
-        .onto(page, held)
+    of_use(number).onto(page, held)
+}
+
+fn of_use(number: u32) -> Line {
+    crate::meaning(nowhere(), words::USAGE, number).end()
 }
 
 // The tool's name and a file's, for what the system says of it.

@@ -3,9 +3,6 @@ use program::Variable;
 use writing::Line;
 use writing::Page;
 
-// How many values a character of a name has.
-const BYTE: u16 = 256;
-
 // How many variables a state has; the position and the outputs among them.
 const VARIABLES: usize = 64;
 
@@ -19,13 +16,8 @@ const LAST_OUTPUT: usize = Variable::O3 as usize;
 const STILL: u8 = 0;
 
 // The name of a variable: the language's, or the user's as the image has it.
-pub fn name(mut line: Line, image: &[u8], number: u8) -> Line {
-    let key = listing::variable_key(image, number);
-    line = line.byte((key % BYTE) as u8);
-    if key < BYTE {
-        return line;
-    }
-    line.byte((key / BYTE) as u8)
+pub fn name(line: Line, image: &[u8], number: u8) -> Line {
+    crate::key(line, listing::variable_key(image, number))
 }
 
 fn value(line: Line, image: &[u8], number: u8, value: i32) -> Line {
@@ -81,10 +73,13 @@ fn put_changes(
 
 // Why a run ended, and after how many turns and records.
 pub fn put_end(page: &mut Page, held: usize, reason: u8, turns: u64, records: usize) -> usize {
+    end(reason, turns, records as u64).onto(page, held)
+}
+
+fn end(reason: u8, turns: u64, records: u64) -> Line {
     let mut line = crate::words(Line::empty(), words::END, reason as u32).end();
     line = crate::part_number(line, words::TURNS, turns).end();
-    line = crate::part_number(line, words::RECORDS, records as u64).end();
-    line.onto(page, held)
+    crate::part_number(line, words::RECORDS, records).end()
 }
 
 // The state at the end: the position, the motion, the outputs, and each value that is not the one at the start.

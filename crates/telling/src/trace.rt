@@ -58,7 +58,7 @@ fn listed(bytes: &[u8], k: usize) -> usize {
 }
 
 // A record or an event by its number; none has a number above the most.
-fn entry(bytes: &[u8], k: usize) -> Event {
+pub fn entry(bytes: &[u8], k: usize) -> Event {
     if Event::MOST < k {
         return events::script::event_at(bytes, Event::MOST);
     }

@@ -23,6 +23,8 @@ pub const MOTION: u8 = b'x';
 
 pub const PART: u8 = b'a';
 
+pub const SAMPLE: u8 = b'u';
+
 // The parts of what the tool says, by their numbers.
 pub const PUNNET: u32 = 1;
 
@@ -52,7 +54,7 @@ pub const CHANGED: u32 = 13;
 
 pub const START: u32 = 14;
 
-pub const COLUMN: u32 = 15;
+pub const FAULTY: u32 = 15;
 
 pub const COLON: u32 = 16;
 
@@ -68,17 +70,19 @@ pub const EVENT: u32 = 21;
 
 pub const TURNS_ASKED: u32 = 22;
 
-pub const STANDARD_INPUT: u32 = 23;
+pub const FIRST_TEN: u32 = 23;
 
-pub const VERSION: u32 = 24;
+pub const STANDARD_INPUT: u32 = 24;
+
+pub const VERSION: u32 = 25;
 
 // The bytes of the table, the place of the first line for people, the number of lines, and the bytes of the longest line with its end.
 // What is sought most often stands first.
-pub const SIZE: usize = 4087;
+pub const SIZE: usize = 6941;
 
-pub const FIRST_FOR_PEOPLE: usize = 878;
+pub const FIRST_FOR_PEOPLE: usize = 1944;
 
-const LINE_COUNT: usize = 108;
+const LINE_COUNT: usize = 175;
 
 pub const LONGEST: usize = 76;
 
@@ -107,7 +111,7 @@ part 11: position:
 part 12: outputs:
 part 13: changed: 
 part 14:  (start 
-part 15:     column 
+part 15:  lines are faulty
 part 16: : 
 part 17:  = 
 part 18:  ..
@@ -115,8 +119,9 @@ part 19: \\x
 part 20: .part
 part 21: event 
 part 22:  turns: 
-part 23: /dev/stdin
-part 24: punnet 1.0, for images of edition 1
+part 23:  lines are faulty, the first 10 are shown
+part 24: /dev/stdin
+part 25: punnet 1.0, for images of edition 1
 command 1: try
 command 2: translate
 command 3: check
@@ -128,6 +133,31 @@ command 8: -h
 command 9: --help
 command 10: --version
 command 11: -f
+such 1: a text of 16,385 bytes
+such 2: a line of 65 characters, its comment among them
+such 3: MA 5,1
+such 4: R1=2147483648
+such 5: VA R1, as R1 is a variable of the language
+such 6: LB Q1 behind a line VA Q1
+such 7: VA Z2, and 32 lines before it declare a variable
+such 8: BR QQ, and no line says LB QQ
+such 9: MV=1
+such 10: a buffer of 5 bytes for an image of 116
+such 21: a file of 15 bytes
+such 22: an image that another release made
+such 23: an image that was cut off, or put together with another file
+such 24: an image with a byte of a cell changed
+such 25: an image with a label renamed to a mnemonic
+such 32: a file of 13 bytes
+such 33: 5 input 5 1, as there are four inputs
+such 34: punnet run feeder.image - 4097
+such 35: a buffer of 11 bytes for one turn
+such 101: IC R1, and R1 is 2147483647
+such 102: R1=5/R2, and R2 is 0
+such 103: O1=2, as an output is 0 or 1
+such 104: LB AA, CL AA: the ninth call finds no place
+such 105: RT, and no CL before it
+such 106: MR 100 twice, and no H between them
 refusal 1: the text has more than 16,384 bytes
 refusal 2: the line has more than 64 bytes
 refusal 3: a byte or a form that no statement has
@@ -168,6 +198,47 @@ hint 9: a number of more than ten digits
 hint 10: no statement begins so; leave out setup and commands such as PG
 hint 11: a variable without = behind it
 hint 12: the parts of the line make no statement
+hint 13: # starts no comment; a comment starts with '
+hint 14: // starts no comment; a comment starts with '
+hint 15: ; starts no comment; a comment starts with '
+hint 16: a byte order mark; save the text without it
+hint 17: a text in UTF-16; save it with one byte for a character
+hint 18: a non-breaking space; type a plain one
+hint 19: a Unicode minus; type a plain -
+hint 20: an en dash; type a plain -
+hint 21: an em dash; type a plain -
+hint 22: a name of one letter; names have two characters
+hint 23: a second operator; a statement has at most one
+hint 24: a number where the name of a label is wanted
+hint 25: LB takes a name of two characters
+hint 26: VA takes a name of two characters, then = and a number if wanted
+hint 27: IC takes one variable
+hint 28: DC takes one variable
+hint 29: BR takes a label, then a comma and a comparison if wanted
+hint 30: CL takes a label, then a comma and a comparison if wanted
+hint 31: RT takes nothing
+hint 32: E takes nothing
+hint 33: H takes nothing, or one number or variable
+hint 34: OE takes a label or 0
+hint 35: MA takes one number or variable
+hint 36: MR takes one number or variable
+hint 37: SL takes one number or variable
+hint 38: PR takes one number or variable
+hint 39: no line declares
+hint 40: is declared as a variable
+hint 41: is declared as a label
+hint 42: is declared on line
+hint 43: can only be read
+hint 44: the turn is below that of the event before
+hint 45: the input's number is not 1 to 4
+hint 46: the input's value is not 0 or 1
+hint 47: the position is outside -2,147,483,647 to 2,147,483,647
+hint 48: no such kind; 1 is input, 2 is arrived, 3 is position
+hint 49: bytes that must be 0 are not
+hint 50: this looks like a text
+hint 51: this looks like events or records
+hint 52: the file is empty
+hint 53: edition
 script 1: no event; TURN arrived, TURN input N VALUE or TURN position VALUE
 script 2: a number that does not fit in an event
 usage 1: wants TEXT [EVENTS] [TURNS]
@@ -193,6 +264,9 @@ usage 20: wants [COMMAND or NUMBER]
 ";
 
 pub const HELP_SIZE: usize = 1634;
+
+// Where on its line the name of a command stands.
+const COMMAND_PLACE: usize = 9;
 
 const HELP: [u8; HELP_SIZE] = *b"punnet: MCode programs tried on the bench before a motor sees them
 
@@ -338,4 +412,44 @@ pub fn number_for(kind: u8, word: &[u8]) -> u32 {
         at = place_behind(b'\n', at);
     }
     0
+}
+
+// Whether the name of a command stands at a place of the text on the tool's use, with nothing or a blank behind it.
+fn is_named(at: usize, command: u32) -> bool {
+    if HELP_SIZE <= at {
+        return false;
+    }
+    let start = meaning_for(COMMAND, command);
+    for i in 0..LONGEST {
+        let b = letter_behind(start, i);
+        let shown = help_letter(at + i);
+        if b == b'\n' {
+            return (shown == b' ') | (shown == b'\n');
+        }
+        if shown != b {
+            return false;
+        }
+    }
+    false
+}
+
+// Whether the byte at a place of the text on the tool's use is on a command, by whether the byte before it is. What is on a command begins
+// with the tool's name and the command's behind two blanks; the lines below are set in further.
+pub fn is_on_command(at: usize, command: u32, before: bool) -> bool {
+    if at == 0 {
+        return false;
+    }
+    if HELP_SIZE <= at {
+        return false;
+    }
+    if help_letter(at - 1) != b'\n' {
+        return before;
+    }
+    if help_letter(at) != b' ' {
+        return false;
+    }
+    if help_letter(at + 2) == b' ' {
+        return before;
+    }
+    is_named(at + COMMAND_PLACE, command)
 }

@@ -9,7 +9,7 @@ abbrev Inv-loop : tie.InvT-loop
 Inv-loop page₀ held₀ i₀ page held i = Unit {0}
 
 abbrev μ-loop : tie.MeasureT-loop
-μ-loop page₀ held₀ i₀ page held i = 1364 - i
+μ-loop page₀ held₀ i₀ page held i = 1634 - i
 
 pub help-spec : {M : Type 1} → statement M
 help-spec =

@@ -1,0 +1,19 @@
+-- `past_word` is safe and ends: each turn leaves fewer bytes.
+-- Assumes nothing.
+use Prim.Native.Nat.{_-_}
+use lib.ListN.{length}
+use borrow.Author.Needs.{needs}
+use Rattle.parts.proofs.past_word.Statement.{statement}
+use Rattle.parts.proofs.past_word.Tie as tie
+
+abbrev Inv-loop : tie.InvT-loop
+Inv-loop line at i₀ i = Unit {0}
+
+abbrev μ-loop : tie.MeasureT-loop
+μ-loop line at i₀ i = length line - i
+
+pub past-word-spec : {M : Type 1} → statement M
+past-word-spec =
+    tie.close
+    (tie.spec Inv-loop μ-loop (search needs) (search needs) (search needs) (search needs) (search needs) (search needs) (search needs)
+    (search needs))

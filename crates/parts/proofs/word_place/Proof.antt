@@ -1,0 +1,18 @@
+-- `word_place` is safe and ends.
+-- Assumes nothing.
+use Prim.Native.Nat.{_-_}
+use borrow.Author.Needs.{needs}
+use Rattle.parts.proofs.word_place.Statement.{statement}
+use Rattle.parts.proofs.word_place.Tie as tie
+
+abbrev Inv-loop : tie.InvT-loop
+Inv-loop line number at₀ counter₀ at counter = Unit {0}
+
+abbrev μ-loop : tie.MeasureT-loop
+μ-loop line number at₀ counter₀ at counter = number - counter
+
+pub word-place-spec : {M : Type 1} → statement M
+word-place-spec =
+    tie.close
+    (tie.spec Inv-loop μ-loop (search needs) (search needs) (search needs) (search needs) (search needs) (search needs) (search needs)
+    (search needs))

@@ -1,0 +1,154 @@
+// What is wrong with an event, and what was given in place of an image.
+use crate::hints;
+use crate::hints::Hint;
+use crate::marks::NOTHING;
+use crate::trace::entry;
+use events::Event;
+use events::Record;
+
+// The faults of an event, by the numbers of their hints.
+const FALLING: u32 = 44;
+
+const INPUT_NUMBER: u32 = 45;
+
+const INPUT_VALUE: u32 = 46;
+
+const FAR_PLACE: u32 = 47;
+
+const NO_KIND: u32 = 48;
+
+const NOT_ZERO: u32 = 49;
+
+// What a file seems to be.
+const TEXT: u32 = 50;
+
+const ENTRIES: u32 = 51;
+
+const EMPTY: u32 = 52;
+
+pub const EDITION: u32 = 53;
+
+// The refusal of an image of another edition.
+const OTHER_EDITION: u8 = 22;
+
+// Why an input is bad.
+fn of_input(event: Event) -> u32 {
+    if (event.number < 1) | (Event::INPUTS < event.number) {
+        return INPUT_NUMBER;
+    }
+    if (event.value < 0) | (1 < event.value) {
+        return INPUT_VALUE;
+    }
+    NOT_ZERO
+}
+
+// Why a bad event is bad that follows one in this turn.
+fn of_event(event: Event, before: u32) -> u32 {
+    if event.turn < before {
+        return FALLING;
+    }
+    if event.kind == Event::INPUT {
+        return of_input(event);
+    }
+    if (event.kind == Event::PLACE) & (event.number == 0) & (event.zeros == 0) {
+        return FAR_PLACE;
+    }
+    if (event.kind == Event::PLACE) | (event.kind == Event::ARRIVAL) {
+        return NOT_ZERO;
+    }
+    NO_KIND
+}
+
+// The turn of the event before one with this number; 0 before the first.
+fn turn_before(events: &[u8], index: usize) -> u32 {
+    if index == 0 {
+        return 0;
+    }
+    entry(events, index - 1).turn
+}
+
+// Why the event with this number is bad.
+pub fn fault(events: &[u8], index: usize) -> u32 {
+    of_event(entry(events, index), turn_before(events, index))
+}
+
+// Which word of a script's line is at fault, from 0.
+fn word_at_fault(fault: u32) -> usize {
+    match fault {
+        INPUT_NUMBER => 2,
+        INPUT_VALUE => 3,
+        FAR_PLACE => 2,
+        _ => 0,
+    }
+}
+
+// Why the event with this number is bad that stands on a line of a script.
+pub fn on_line(line: &[u8], events: &[u8], index: usize) -> Hint {
+    let fault = fault(events, index);
+    let place = parts::word_place(parts::code(line), word_at_fault(fault));
+    hints::at(place, fault)
+}
+
+// Where a line of a script has a fault.
+pub fn in_script(line: &[u8], fault: u8) -> Hint {
+    hints::at(scripts::place_of_fault(parts::code(line), fault), NOTHING)
+}
+
+// No control characters but those between words and lines.
+fn is_text(bytes: &[u8]) -> bool {
+    let mut i: usize = 0;
+    while i < bytes.len() {
+        let b = bytes[i];
+        if (b < b'\t') | ((b'\r' < b) & (b < b' ')) {
+            return false;
+        }
+        i += 1;
+    }
+    true
+}
+
+// A kind and zeros as an event or a record has them. The last zeros stand where an image has its edition.
+fn may_be_entry(entry: Event) -> bool {
+    (1 <= entry.kind) & (entry.kind <= Record::FAILED) & (entry.zeros == 0)
+}
+
+// Such entries alone, in 12 bytes each.
+fn are_entries(bytes: &[u8]) -> bool {
+    if events::script::is_bad_script(bytes) {
+        return false;
+    }
+    for k in 0..events::script::event_count(bytes) {
+        if !may_be_entry(entry(bytes, k)) {
+            return false;
+        }
+    }
+    true
+}
+
+// What a file seems to be that is no image.
+fn seems(file: &[u8]) -> u32 {
+    if file.len() == 0 {
+        return EMPTY;
+    }
+    if is_text(file) {
+        return TEXT;
+    }
+    if are_entries(file) {
+        return ENTRIES;
+    }
+    NOTHING
+}
+
+// What was given in place of an image, with this refusal.
+pub fn instead(file: &[u8], refusal: u8) -> Hint {
+    let number = seems(file);
+    if (number == NOTHING) & (refusal == OTHER_EDITION) {
+        return Hint {
+            column: 0,
+            number: EDITION,
+            name: 0,
+            value: image::edition(file) as usize,
+        };
+    }
+    hints::at(0, number)
+}
