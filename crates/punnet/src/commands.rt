@@ -1,6 +1,6 @@
 // What the commands share: statuses, refusals, and pages.
 use crate::files;
-use crate::outputs::Output;
+use crate::paths;
 use bench::Ran;
 use libc::STDOUT_FILENO;
 use telling::refusals;
@@ -31,107 +31,103 @@ const MOST_NUMBER: u64 = 999;
 const MANY_TURNS: u8 = 34;
 
 // Tells how a command is used.
-pub fn usage(page: &mut Page, given: &[u8], number: u32) -> u8 {
-    files::complain(page, given, number);
+pub fn usage(given: &[u8], number: u32) -> u8 {
+    files::complain(given, number);
     TROUBLE
 }
 
 // Writes a page that is done, and answers the status.
-pub fn done(page: &mut Page, held: usize) -> u8 {
+pub fn done(page: &Page, held: usize) -> u8 {
     if io::write_all(STDOUT_FILENO, writing::held_on(page, held)) {
         return ACCEPTED;
     }
-    files::trouble_with_output(page);
+    files::trouble_with_output();
     TROUBLE
 }
 
-// Writes a page on a file that was written; where the file went to standard output, the page goes to standard error.
-pub fn done_with(page: &mut Page, held: usize, path: &[u8], output: Output) -> u8 {
-    if output.standard {
+// Writes a page on a file that was written. Where that went to standard output, the page goes to standard error; where the page is lost,
+// it is told that the file is there.
+pub fn done_with(path: &[u8], page: &Page, held: usize) -> u8 {
+    if paths::is_dash(path) {
         files::tell(page, held);
         return ACCEPTED;
     }
     let status = done(page, held);
     if (status != ACCEPTED) & (path.len() != 0) {
-        files::complain(page, path, PAGE_LOST);
+        files::complain(path, PAGE_LOST);
     }
     status
 }
 
-// What a help page holds, if anything.
-fn help_page(page: &mut Page, held: usize, word: &[u8]) -> u8 {
+// help [COMMAND | NUMBER]
+pub fn help(word: &[u8]) -> u8 {
+    let mut page = writing::page();
+    let held = put_help(&mut page, word);
     if held == 0 {
-        return usage(page, word, NO_HELP);
+        return usage(word, NO_HELP);
     }
-    done(page, held)
+    done(&page, held)
 }
 
-// help [COMMAND | NUMBER]
-pub fn help(page: &mut Page, word: &[u8]) -> u8 {
+fn put_help(page: &mut Page, word: &[u8]) -> usize {
     if word.len() == 0 {
-        let held = telling::help(page);
-        return done(page, held);
+        return telling::help(page);
     }
     let number = scripts::digits(word);
-    if number.fault == scripts::NO_FAULT {
-        return explain(page, number.size, word);
+    if number.fault != scripts::NO_FAULT {
+        return telling::help_of(page, words::number_for(words::COMMAND, word));
     }
-    help_of(page, word)
-}
-
-fn explain(page: &mut Page, number: u64, word: &[u8]) -> u8 {
-    if MOST_NUMBER < number {
-        return usage(page, word, NO_HELP);
+    if MOST_NUMBER < number.size {
+        return 0;
     }
-    let held = telling::explain(page, number as u32);
-    help_page(page, held, word)
+    telling::explain(page, number.size as u32)
 }
 
-fn help_of(page: &mut Page, word: &[u8]) -> u8 {
-    let command = words::number_for(words::COMMAND, word);
-    let held = telling::help_of(page, command);
-    help_page(page, held, word)
-}
-
-pub fn version(page: &mut Page) -> u8 {
+pub fn version() -> u8 {
+    let mut page = writing::page();
     let held = telling::part(Line::empty(), words::VERSION)
         .end()
-        .onto(page, 0);
-    done(page, held)
+        .onto(&mut page, 0);
+    done(&page, held)
 }
 
-pub fn all_words(page: &mut Page) -> u8 {
-    let held = telling::all_words(page);
-    done(page, held)
+pub fn all_words() -> u8 {
+    let mut page = writing::page();
+    let held = telling::all_words(&mut page);
+    done(&page, held)
 }
 
-pub fn tell_usage(page: &mut Page) -> u8 {
-    let held = telling::help(page);
-    files::tell(page, held);
+pub fn tell_usage() -> u8 {
+    let mut page = writing::page();
+    let held = telling::help(&mut page);
+    files::tell(&page, held);
     TROUBLE
 }
 
-// A refusal of a file.
-pub fn refuse(page: &mut Page, path: &[u8], number: u8) -> u8 {
-    let held = refusals::put(page, path, number);
-    files::tell(page, held);
+// A refusal of a text as a whole.
+pub fn refuse(path: &[u8], number: u8) -> u8 {
+    let mut page = writing::page();
+    let held = refusals::put(&mut page, path, number);
+    files::tell(&page, held);
     REFUSED
 }
 
 // A refusal of an image.
-pub fn refuse_image(page: &mut Page, path: &[u8], image: &[u8], number: u8) -> u8 {
-    let held = refusals::put_of_image(page, path, image, number);
-    files::tell(page, held);
+pub fn refuse_image(path: &[u8], image: &[u8], number: u8) -> u8 {
+    let mut page = writing::page();
+    let held = refusals::put_of_image(&mut page, path, image, number);
+    files::tell(&page, held);
     REFUSED
 }
 
 // A refusal of a run, whose events were accepted: of the image, or of the turns.
-pub fn refuse_run(page: &mut Page, path: &[u8], image: &[u8], turns: &[u8], number: u8) -> u8 {
+pub fn refuse_run(path: &[u8], image: &[u8], turns: &[u8], number: u8) -> u8 {
     if number < MANY_TURNS {
-        return refuse_image(page, path, image, number);
+        return refuse_image(path, image, number);
     }
-    let held = refusals::put_of_turns(page, turns, number);
-    files::tell(page, held);
+    let mut page = writing::page();
+    let held = refusals::put_of_turns(&mut page, turns, number);
+    files::tell(&page, held);
     REFUSED
 }
 
@@ -151,16 +147,18 @@ pub fn records_of<'a>(buffer: &'a [u8], count: usize) -> &'a [u8] {
     parts::front(buffer, events::script::SIZE * count)
 }
 
-// Puts a file and what a line says of it on a page.
-pub fn put_of(page: &mut Page, path: &[u8], line: Line) -> usize {
-    let mut held = telling::name(page, 0, path);
-    held = telling::part(Line::empty(), words::COLON).onto(page, held);
-    line.onto(page, held)
+// Tells of a file what a line says.
+pub fn tell_of(path: &[u8], line: Line) -> u8 {
+    let mut page = writing::page();
+    let mut held = telling::name(&mut page, 0, path);
+    held = telling::part(Line::empty(), words::COLON).onto(&mut page, held);
+    held = line.onto(&mut page, held);
+    done_with(path, &page, held)
 }
 
-// Puts what an image holds on a page: its bytes, cells, labels and variables.
-pub fn put_image(page: &mut Page, path: &[u8], image: &[u8]) -> usize {
-    put_of(page, path, counts(image))
+// Tells what an image holds: its bytes, cells, labels and variables.
+pub fn tell_image(path: &[u8], image: &[u8]) -> u8 {
+    tell_of(path, counts(image))
 }
 
 fn counts(image: &[u8]) -> Line {

@@ -21,23 +21,26 @@ pub fn tell(page: &Page, held: usize) {
 }
 
 // Tells what is wrong with a word or a file that was given.
-pub fn complain(page: &mut Page, given: &[u8], number: u32) {
-    let held = refusals::put_of_use(page, given, number);
-    tell(page, held);
+pub fn complain(given: &[u8], number: u32) {
+    let mut page = writing::page();
+    let held = refusals::put_of_use(&mut page, given, number);
+    tell(&page, held);
 }
 
 // Tells which file, and what the system says of it.
-pub fn trouble(page: &mut Page, path: &[u8]) {
-    let held = refusals::put_trouble(page, path);
-    os::fail(writing::held_on(page, held));
+pub fn trouble(path: &[u8]) {
+    let mut page = writing::page();
+    let held = refusals::put_trouble(&mut page, path);
+    os::fail(writing::held_on(&page, held));
 }
 
 // Tells that standard output could not be written.
-pub fn trouble_with_output(page: &mut Page) {
+pub fn trouble_with_output() {
+    let mut page = writing::page();
     let mut line = telling::part(Line::empty(), words::PUNNET);
     line = telling::part(line, words::STANDARD_OUTPUT);
-    let held = line.onto(page, 0);
-    os::fail(writing::held_on(page, held));
+    let held = line.onto(&mut page, 0);
+    os::fail(writing::held_on(&page, held));
 }
 
 fn of_standard_input() -> Seen {
@@ -67,12 +70,12 @@ fn open(path: &[u8]) -> i32 {
 }
 
 // Reads a file, as much of it as there is room for.
-pub fn read(page: &mut Page, path: &[u8], room: &mut [u8]) -> Contents
+pub fn read(path: &[u8], room: &mut [u8]) -> Contents
     ensures { λ r. ⌜ Counts (r .length) (now (room .exit)) ⌝ }
 {
     let file = open(path);
     if file < 0 {
-        trouble(page, path);
+        trouble(path);
         return Contents {
             length: 0,
             failed: true,
@@ -80,7 +83,7 @@ pub fn read(page: &mut Page, path: &[u8], room: &mut [u8]) -> Contents
     }
     let contents = fill(file, room);
     if contents.failed {
-        trouble(page, path);
+        trouble(path);
     }
     libc::close(file);
     contents

@@ -5,7 +5,6 @@ use crate::seen;
 use crate::seen::Seen;
 use events::Event;
 use telling::refusals;
-use writing::Page;
 
 // How many bytes the events of a file take, and the status where it cannot be used.
 pub struct Given {
@@ -30,6 +29,8 @@ const MOST_TURNS: u64 = 4096;
 
 // The longest file of events that is read, and the room for events as bytes: for one more than a script may have.
 const ROOM: usize = 262144;
+
+type Room = [u8; ROOM];
 
 pub const EVENTS: usize = 49164;
 
@@ -96,47 +97,57 @@ fn is_no_file(path: &[u8]) -> bool {
 }
 
 // Reads the events that a run is given.
-pub fn events(page: &mut Page, path: &[u8], bytes: &mut Events) -> Given {
+pub fn events(path: &[u8], bytes: &mut Events) -> Given {
     if is_no_file(path) {
         return no_events(ACCEPTED);
     }
-    script(page, path, bytes)
+    script(path, bytes)
 }
 
 // Reads a file of events, a script or bytes. What is wrong with it is told.
-pub fn script(page: &mut Page, path: &[u8], bytes: &mut Events) -> Given {
-    let mut file = [0u8; ROOM];
-    let contents = files::read(page, path, &mut file);
-    let length = contents.length;
+pub fn script(path: &[u8], bytes: &mut Events) -> Given {
+    let mut file = room();
+    let contents = files::read(path, &mut file);
     if contents.failed {
         return no_events(TROUBLE);
     }
-    if length == ROOM {
-        files::complain(page, path, LONG_FILE);
+    if contents.length == ROOM {
+        files::complain(path, LONG_FILE);
         return no_events(TROUBLE);
     }
-    of_file(page, path, &file[..length], bytes)
+    of_file(path, of_room(&file, contents.length), bytes)
 }
 
-fn of_file(page: &mut Page, path: &[u8], file: &[u8], bytes: &mut Events) -> Given {
-    let is_script = !scripts::is_bytes(file);
-    let mut length: usize = 0;
-    if is_script {
-        let script = scripts::translate(file, bytes);
-        if script.fault != scripts::NO_FAULT {
-            let held = refusals::put_of_script(page, path, file, script.line, script.fault);
-            files::tell(page, held);
-            return no_events(REFUSED);
-        }
-        length = script.length;
-    } else {
-        length = copy(file, bytes);
+fn room() -> Room {
+    [0; ROOM]
+}
+
+fn of_room<'a>(room: &'a Room, length: usize) -> &'a [u8] {
+    parts::front(room, length)
+}
+
+fn of_file(path: &[u8], file: &[u8], bytes: &mut Events) -> Given {
+    if scripts::is_bytes(file) {
+        let length = copy(file, bytes);
+        return accepted(path, file, false, of_events(bytes, length));
     }
-    accepted(page, path, file, is_script, of_events(bytes, length))
+    let script = scripts::translate(file, bytes);
+    if script.fault != scripts::NO_FAULT {
+        return refuse_line(path, file, script.line, script.fault);
+    }
+    accepted(path, file, true, of_events(bytes, script.length))
+}
+
+// Tells a line that says no event.
+fn refuse_line(path: &[u8], file: &[u8], line: usize, fault: u8) -> Given {
+    let mut page = writing::page();
+    let held = refusals::put_of_script(&mut page, path, file, line, fault);
+    files::tell(&page, held);
+    no_events(REFUSED)
 }
 
 // The events of a file, if a run takes them; else the refusal is told.
-fn accepted(page: &mut Page, path: &[u8], file: &[u8], is_script: bool, events: &[u8]) -> Given {
+fn accepted(path: &[u8], file: &[u8], is_script: bool, events: &[u8]) -> Given {
     let refusal = refusal_of(events);
     if refusal.number == 0 {
         return Given {
@@ -144,7 +155,7 @@ fn accepted(page: &mut Page, path: &[u8], file: &[u8], is_script: bool, events: 
             status: ACCEPTED,
         };
     }
-    refuse(page, path, file, is_script, events, refusal);
+    refuse(path, file, is_script, events, refusal);
     no_events(REFUSED)
 }
 
@@ -162,26 +173,20 @@ fn copy(from: &[u8], bytes: &mut Events) -> usize {
 }
 
 // Tells a refusal of events: of one, with the line of a script or the number of an event in bytes; or of them all.
-fn refuse(
-    page: &mut Page,
-    path: &[u8],
-    file: &[u8],
-    is_script: bool,
-    events: &[u8],
-    refusal: Refusal,
-) {
+fn refuse(path: &[u8], file: &[u8], is_script: bool, events: &[u8], refusal: Refusal) {
     let number = refusal.number;
     let index = refusal.index;
+    let mut page = writing::page();
     let mut held: usize = 0;
     if number != BAD_EVENT {
-        held = refusals::put(page, path, number);
+        held = refusals::put(&mut page, path, number);
     } else if is_script {
         let line = scripts::line_of_event(file, index);
-        held = refusals::put_of_script_event(page, path, file, line, events, index, number);
+        held = refusals::put_of_script_event(&mut page, path, file, line, events, index, number);
     } else {
-        held = refusals::put_of_event(page, path, events, index, number);
+        held = refusals::put_of_event(&mut page, path, events, index, number);
     }
-    files::tell(page, held);
+    files::tell(&page, held);
 }
 
 // Whether bytes are events that a run takes.

@@ -5,160 +5,108 @@ use crate::commands::TROUBLE;
 use crate::files;
 use crate::given;
 use crate::outputs;
-use crate::outputs::Output;
-use crate::paths;
-use crate::paths::Name;
 use bench::Ran;
-use telling::trace;
-use writing::Page;
 
-pub const IMAGE: usize = 5016;
+pub type Image = [u8; 5016];
 
-pub const RECORDS: usize = 49152;
+pub type Records = [u8; 49152];
+
+pub fn no_image() -> Image {
+    [0; 5016]
+}
+
+pub fn no_records() -> Records {
+    [0; 49152]
+}
 
 // The first bytes of an image, and of records.
-pub fn of_image<'a>(room: &'a [u8; IMAGE], length: usize) -> &'a [u8] {
+pub fn of_image<'a>(room: &'a Image, length: usize) -> &'a [u8] {
     parts::front(room, length)
 }
 
-pub fn of_records<'a>(room: &'a [u8; RECORDS], length: usize) -> &'a [u8] {
-    parts::front(room, length)
+pub fn of_records<'a>(room: &'a Records, count: usize) -> &'a [u8] {
+    if events::Event::MOST < count {
+        return parts::front(room, 0);
+    }
+    parts::front(room, events::script::SIZE * count)
 }
 
 // check IMAGE
-pub fn check_command(page: &mut Page, path: &[u8]) -> u8 {
-    let mut room = [0u8; IMAGE];
-    let contents = files::read(page, path, &mut room);
+pub fn check_command(path: &[u8]) -> u8 {
+    let mut room = no_image();
+    let contents = files::read(path, &mut room);
     if contents.failed {
         return TROUBLE;
     }
-    check(page, path, of_image(&room, contents.length))
+    check(path, of_image(&room, contents.length))
 }
 
-fn check(page: &mut Page, path: &[u8], image: &[u8]) -> u8 {
+fn check(path: &[u8], image: &[u8]) -> u8 {
     let checked = bench::check(image);
     if checked.number != 0 {
-        return commands::refuse_image(page, path, image, checked.number);
+        return commands::refuse_image(path, image, checked.number);
     }
-    let held = commands::put_image(page, path, image);
-    commands::done(page, held)
+    commands::tell_image(path, image)
 }
 
 // run [-f] IMAGE EVENTS TURNS [RECORDS]
-pub fn run_command(
-    page: &mut Page,
-    path: &[u8],
-    events: &[u8],
-    word: &[u8],
-    to: &[u8],
-    force: bool,
-) -> u8 {
+pub fn run_command(path: &[u8], events: &[u8], word: &[u8], to: &[u8], force: bool) -> u8 {
     let turns = given::turns(word);
     if !turns.is_number {
-        return commands::usage(page, word, commands::NO_TURNS);
+        return commands::usage(word, commands::NO_TURNS);
     }
-    let mut name = io::buffer();
-    let output = prepare(page, path, events, to, &mut name, force);
-    if !output.allowed {
+    let source = files::look(path);
+    if !outputs::may_replace(to, outputs::RECORDS, force, source, given::look(events)) {
         return TROUBLE;
     }
-    run_file(
-        page,
-        path,
-        events,
-        word,
-        turns.count,
-        to,
-        output,
-        paths::of_name(&name, output.length),
-    )
+    run_file(path, events, word, turns.count, to)
 }
 
-// The file for the records; none where none is named.
-fn prepare(
-    page: &mut Page,
-    path: &[u8],
-    events: &[u8],
-    to: &[u8],
-    name: &mut Name,
-    force: bool,
-) -> Output {
-    if to.len() == 0 {
-        return outputs::none();
-    }
-    outputs::prepare(
-        page,
-        to,
-        name,
-        outputs::RECORDS,
-        force,
-        files::look(path),
-        given::look(events),
-    )
-}
-
-fn run_file(
-    page: &mut Page,
-    path: &[u8],
-    events: &[u8],
-    word: &[u8],
-    turns: u64,
-    to: &[u8],
-    output: Output,
-    name: &[u8],
-) -> u8 {
-    let mut room = [0u8; IMAGE];
-    let contents = files::read(page, path, &mut room);
+fn run_file(path: &[u8], events: &[u8], word: &[u8], turns: u64, to: &[u8]) -> u8 {
+    let mut room = no_image();
+    let contents = files::read(path, &mut room);
     if contents.failed {
         return TROUBLE;
     }
+    run_script(
+        path,
+        of_image(&room, contents.length),
+        events,
+        word,
+        turns,
+        to,
+    )
+}
+
+fn run_script(path: &[u8], image: &[u8], events: &[u8], word: &[u8], turns: u64, to: &[u8]) -> u8 {
     let mut bytes = given::no_bytes();
-    let read = given::events(page, events, &mut bytes);
+    let read = given::events(events, &mut bytes);
     if read.status != ACCEPTED {
         return read.status;
     }
     run_with(
-        page,
         path,
-        of_image(&room, contents.length),
+        image,
         given::of_events(&bytes, read.length),
         word,
         turns,
         to,
-        output,
-        name,
     )
 }
 
 // Runs an image on events, keeps the records where a file is named for them, and tells how it went.
-fn run_with(
-    page: &mut Page,
-    path: &[u8],
-    image: &[u8],
-    script: &[u8],
-    word: &[u8],
-    turns: u64,
-    to: &[u8],
-    output: Output,
-    name: &[u8],
-) -> u8 {
-    let mut room = [0u8; RECORDS];
+fn run_with(path: &[u8], image: &[u8], script: &[u8], word: &[u8], turns: u64, to: &[u8]) -> u8 {
+    let mut room = no_records();
     let ran = bench::run(image, script, turns, &mut room);
     if ran.number != 0 {
-        return commands::refuse_run(page, path, image, word, ran.number);
+        return commands::refuse_run(path, image, word, ran.number);
     }
-    let records = commands::records_of(of_records(&room, RECORDS), ran.records);
-    if to.len() != 0 {
-        if !outputs::write(page, to, output, name, records) {
-            return TROUBLE;
-        }
-    }
-    let held = put(page, image, records, ran);
-    commands::done_with(page, held, to, output)
+    keep(to, image, of_records(&room, ran.records), ran)
 }
 
-// What a run recorded, and how it ended.
-fn put(page: &mut Page, image: &[u8], records: &[u8], ran: Ran) -> usize {
-    let held = trace::put_records(page, image, records);
-    commands::put_end(page, held, image, ran)
+fn keep(to: &[u8], image: &[u8], records: &[u8], ran: Ran) -> u8 {
+    if !outputs::write(to, records) {
+        return TROUBLE;
+    }
+    commands::tell_records(to, image, records, ran)
 }

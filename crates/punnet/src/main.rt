@@ -12,7 +12,6 @@ mod texts;
 
 use commands::ACCEPTED;
 use commands::REFUSED;
-use writing::Page;
 
 // Where the status goes, as one digit: a descriptor that no file is opened on.
 const STATUS: i32 = 9;
@@ -80,21 +79,21 @@ fn usage_of(command: u32) -> u32 {
 }
 
 // Does what a command says with its arguments.
-fn work(page: &mut Page, command: u32, force: bool, a: &[u8], b: &[u8], c: &[u8], d: &[u8]) -> u8 {
+fn work(command: u32, force: bool, a: &[u8], b: &[u8], c: &[u8], d: &[u8]) -> u8 {
     match command {
-        TRY => texts::try_command(page, a, b, c),
-        TRANSLATE => texts::translate_command(page, a, b, force),
-        CHECK => images::check_command(page, a),
-        RUN => images::run_command(page, a, b, c, d, force),
-        EVENTS => scripted::events_command(page, a, b, force),
-        WORDS => commands::all_words(page),
-        VERSION => commands::version(page),
-        _ => commands::help(page, a),
+        TRY => texts::try_command(a, b, c),
+        TRANSLATE => texts::translate_command(a, b, force),
+        CHECK => images::check_command(a),
+        RUN => images::run_command(a, b, c, d, force),
+        EVENTS => scripted::events_command(a, b, force),
+        WORDS => commands::all_words(),
+        VERSION => commands::version(),
+        _ => commands::help(a),
     }
 }
 
 // Reads the arguments of a command, but for its `-f`.
-fn with_arguments(page: &mut Page, command: u32, force: usize) -> u8 {
+fn with_arguments(command: u32, force: usize) -> u8 {
     let mut first = io::buffer();
     let mut second = io::buffer();
     let mut third = io::buffer();
@@ -104,7 +103,6 @@ fn with_arguments(page: &mut Page, command: u32, force: usize) -> u8 {
     let c = arguments::without_force(4, force, &mut third);
     let d = arguments::without_force(5, force, &mut fourth);
     work(
-        page,
         command,
         force != 0,
         paths::of_name(&first, a),
@@ -115,49 +113,48 @@ fn with_arguments(page: &mut Page, command: u32, force: usize) -> u8 {
 }
 
 // Tells which argument is wrong; an empty one by the command.
-fn wrong(page: &mut Page, name: &[u8], at: usize, fault: u32) -> u8 {
+fn wrong(name: &[u8], at: usize, fault: u32) -> u8 {
     let mut word = io::buffer();
     let length = arguments::argument(at, &mut word);
     if length == 0 {
-        return commands::usage(page, name, fault);
+        return commands::usage(name, fault);
     }
-    commands::usage(page, paths::of_name(&word, length), fault)
+    commands::usage(paths::of_name(&word, length), fault)
 }
 
-fn command(page: &mut Page, name: &[u8], count: usize) -> u8 {
+fn command(name: &[u8], count: usize) -> u8 {
     let command = words::number_for(words::COMMAND, name);
     if (command == 0) | (command == FORCE) {
-        return commands::usage(page, name, commands::NO_COMMAND);
+        return commands::usage(name, commands::NO_COMMAND);
     }
     let asked = arguments::read(count);
     if asked.helps {
-        return commands::help(page, name);
+        return commands::help(name);
     }
     if asked.fault != 0 {
-        return wrong(page, name, asked.wrong, asked.fault);
+        return wrong(name, asked.wrong, asked.fault);
     }
     let force = asked.force;
     if (force != 0) & !is_writing(command) {
-        return wrong(page, name, force, arguments::NO_OPTION);
+        return wrong(name, force, arguments::NO_OPTION);
     }
     if !takes(command, arguments::counted(count, force)) {
-        return commands::usage(page, name, usage_of(command));
+        return commands::usage(name, usage_of(command));
     }
-    with_arguments(page, command, force)
+    with_arguments(command, force)
 }
 
-fn start(page: &mut Page) -> u8 {
+fn start() -> u8 {
     let count = os::arg_count();
     if count < 2 {
-        return commands::tell_usage(page);
+        return commands::tell_usage();
     }
     let mut word = io::buffer();
     let length = arguments::argument(1, &mut word);
-    command(page, paths::of_name(&word, length), count)
+    command(paths::of_name(&word, length), count)
 }
 
 fn main() {
-    let mut page = writing::page();
-    let status = start(&mut page);
+    let status = start();
     io::write_all(STATUS, &[digit(status)]);
 }

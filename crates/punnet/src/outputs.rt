@@ -10,15 +10,6 @@ use events::Event;
 use events::Record;
 use libc::STDOUT_FILENO;
 use writing::Line;
-use writing::Page;
-
-// A file that is to be written: whether it may be, whether it is standard output, and what is there; the length of its name behind links.
-pub struct Output {
-    pub allowed: bool,
-    pub standard: bool,
-    pub length: usize,
-    pub seen: Seen,
-}
 
 // A file that is being written: the length of its name, and its descriptor.
 struct Part {
@@ -46,38 +37,16 @@ const MOST_PARTS: u16 = 65535;
 // The longest name of a file, less the most that is put behind it.
 const LONGEST_BASE: usize = 245;
 
-// The longest file of any of the kinds, and one byte more.
-const ROOM: usize = 49153;
-
-// No file is to be written.
-pub fn none() -> Output {
-    Output {
-        allowed: true,
-        standard: false,
-        length: 0,
-        seen: seen::nothing(),
-    }
-}
-
-fn standard() -> Output {
-    Output {
-        allowed: true,
-        standard: true,
-        length: 0,
-        seen: seen::nothing(),
-    }
-}
-
 // A record as a run writes it, in a turn after that of the record before.
 fn is_record(bytes: &[u8], k: usize) -> bool {
-    if k == 0 {
-        return false;
-    }
     if Event::MOST < k {
         return false;
     }
-    let before = events::script::event_at(bytes, k - 1);
     let record = events::script::event_at(bytes, k);
+    if k == 0 {
+        return has_form(record);
+    }
+    let before = events::script::event_at(bytes, k - 1);
     (before.turn < record.turn) & has_form(record)
 }
 
@@ -86,18 +55,12 @@ fn has_form(record: Event) -> bool {
 }
 
 fn are_records(bytes: &[u8]) -> bool {
-    if events::script::is_bad_script(bytes) {
-        return false;
-    }
-    if !has_form(events::script::event_at(bytes, 0)) {
-        return false;
-    }
-    for k in 1..events::script::event_count(bytes) {
+    for k in 0..events::script::event_count(bytes) {
         if !is_record(bytes, k) {
             return false;
         }
     }
-    true
+    !events::script::is_bad_script(bytes)
 }
 
 // Whether bytes are of a kind, or there are none.
@@ -118,132 +81,78 @@ fn holds(path: &[u8], kind: u32) -> bool {
     if file < 0 {
         return false;
     }
-    let mut room = [0u8; ROOM];
-    let filled = files::fill(file, &mut room);
+    let mut room = io::large_buffer();
+    let contents = files::fill(file, &mut room);
     libc::close(file);
-    if filled.failed {
-        return false;
-    }
-    let length = filled.length;
+    let length = contents.length;
     are_of_kind(&room[..length], kind)
 }
 
-// Whether this user may write a plain file.
+// Whether this user may write a plain file; else it is told.
 fn may_write(path: &[u8]) -> bool {
     let file = os::open_update(path);
     if file < 0 {
+        files::trouble(path);
         return false;
     }
     libc::close(file);
     true
 }
 
-// Whether the plain file of a name may be replaced; else it is told.
-fn may_replace(page: &mut Page, path: &[u8], name: &[u8], kind: u32, force: bool) -> bool {
-    if !may_write(name) {
-        files::trouble(page, path);
-        return false;
-    }
-    if force {
-        return true;
-    }
-    if holds(name, kind) {
-        return true;
-    }
-    files::complain(page, path, kind);
-    false
-}
-
-// Whether what is there may be written over; else it is told. What is read would be lost.
-fn allows(
-    page: &mut Page,
-    path: &[u8],
-    name: &[u8],
-    kind: u32,
-    force: bool,
-    there: Seen,
-    is_source: bool,
-) -> bool {
+// What speaks against replacing what is there: the words for it, or 0.
+fn objection(path: &[u8], kind: u32, force: bool, there: Seen, is_source: bool) -> u32 {
     if is_source {
-        files::complain(page, path, SOURCE);
-        return false;
+        return SOURCE;
     }
     if !there.plain {
-        files::complain(page, path, NOT_PLAIN);
-        return false;
+        return NOT_PLAIN;
     }
-    may_replace(page, path, name, kind, force)
+    if force {
+        return 0;
+    }
+    if holds(path, kind) {
+        return 0;
+    }
+    kind
 }
 
 // Whether there is nothing yet; another reason why nothing is seen is told.
-fn is_new(page: &mut Page, path: &[u8]) -> bool {
+fn is_new(path: &[u8]) -> bool {
     if os::errno() == libc::ENOENT {
         return true;
     }
-    files::trouble(page, path);
+    files::trouble(path);
     false
 }
 
-// Looks at what is to be written, beside the two files at most that are read, and tells where it must not be.
-pub fn prepare(
-    page: &mut Page,
-    path: &[u8],
-    name: &mut Name,
-    kind: u32,
-    force: bool,
-    first: Seen,
-    second: Seen,
-) -> Output {
-    if paths::is_dash(path) {
-        return standard();
+// Whether a file may be written, beside the two at most that are read; else it is told. No name means none.
+pub fn may_replace(path: &[u8], kind: u32, force: bool, first: Seen, second: Seen) -> bool {
+    if (path.len() == 0) | paths::is_dash(path) {
+        return true;
     }
-    let length = paths::behind_links(path, name);
     let there = seen::look_at(path);
-    let mut allowed = false;
-    if there.found {
-        let is_source = seen::same(there, first) | seen::same(there, second);
-        allowed = allows(
-            page,
-            path,
-            paths::of_name(name, length),
-            kind,
-            force,
-            there,
-            is_source,
-        );
-    } else {
-        allowed = is_new(page, path);
+    if !there.found {
+        return is_new(path);
     }
-    Output {
-        allowed,
-        standard: false,
-        length,
-        seen: there,
+    let is_source = seen::same(there, first) | seen::same(there, second);
+    let number = objection(path, kind, force, there, is_source);
+    if number == 0 {
+        return may_write(path);
     }
+    files::complain(path, number);
+    false
 }
 
 // The name of a file that is being written: `.part` and a number behind the name that is meant, which is cut where it is too long for that.
 fn put_part(part: &mut Name, path: &[u8], k: u16) -> usize {
-    let folder = paths::folder_length(path);
-    let base = parts::back(path, folder);
-    let mut length = paths::put(part, 0, parts::front(path, folder));
-    length = paths::put(part, length, cut(base));
-    paths::put_line(
-        part,
-        length,
-        telling::part_number(Line::empty(), words::UNFINISHED, k as u64),
-    )
-}
-
-fn cut<'a>(base: &'a [u8]) -> &'a [u8] {
-    if base.len() <= LONGEST_BASE {
-        return base;
-    }
-    parts::front(base, LONGEST_BASE)
+    let longest = paths::longer(paths::folder_length(path), LONGEST_BASE);
+    let length = paths::put(part, 0, paths::cut(path, longest));
+    let ending = telling::part_number(Line::empty(), words::UNFINISHED, k as u64);
+    paths::put_line(part, length, ending)
 }
 
 // Makes a new file beside the one that is meant. The first of its names that is taken is told.
-fn make_part(page: &mut Page, path: &[u8], part: &mut Name) -> Part {
+fn make_part(path: &[u8], part: &mut Name) -> Part {
     for k in 0..MOST_PARTS {
         let length = put_part(part, path, k);
         let file = os::create(paths::of_name(part, length));
@@ -251,7 +160,7 @@ fn make_part(page: &mut Page, path: &[u8], part: &mut Name) -> Part {
             return Part { length, file };
         }
         if k == 0 {
-            files::complain(page, paths::of_name(part, length), LEFT_OVER);
+            files::complain(paths::of_name(part, length), LEFT_OVER);
         }
     }
     Part {
@@ -261,20 +170,20 @@ fn make_part(page: &mut Page, path: &[u8], part: &mut Name) -> Part {
 }
 
 // Gives a new file the permissions of the one that it will replace, and its owner where the system lets that be.
-fn liken(file: i32, seen: Seen) -> bool {
-    if !seen.found {
+fn liken(file: i32, there: Seen) -> bool {
+    if !there.found {
         return true;
     }
-    libc::fchown(file, seen.owner, seen.group);
-    libc::fchmod(file, seen.mode) == 0
+    libc::fchown(file, there.owner, there.group);
+    libc::fchmod(file, there.mode) == 0
 }
 
 // The bytes reach the file, and it is closed.
-fn store(file: i32, bytes: &[u8], seen: Seen) -> bool {
+fn store(file: i32, bytes: &[u8], there: Seen) -> bool {
     if !io::write_all(file, bytes) {
         return false;
     }
-    if !liken(file, seen) {
+    if !liken(file, there) {
         return false;
     }
     if libc::fsync(file) != 0 {
@@ -284,51 +193,45 @@ fn store(file: i32, bytes: &[u8], seen: Seen) -> bool {
 }
 
 // The bytes reach the file of a name, which takes the place of the one that is meant. Where that fails it is told, and what was there stays.
-fn replace(
-    page: &mut Page,
-    path: &[u8],
-    file: i32,
-    part: &[u8],
-    name: &[u8],
-    bytes: &[u8],
-    seen: Seen,
-) -> bool {
-    if store(file, bytes, seen) {
-        if os::rename(part, name) == 0 {
+fn replace(file: i32, part: &[u8], path: &[u8], bytes: &[u8]) -> bool {
+    if store(file, bytes, seen::look_at(path)) {
+        if os::rename(part, path) == 0 {
             return true;
         }
     }
-    files::trouble(page, path);
+    files::trouble(path);
     os::unlink(part);
     false
 }
 
-fn write_standard(page: &mut Page, bytes: &[u8]) -> bool {
+// Writes a file whole: under another name in the same folder first, which then takes the place of what was there.
+fn write_whole(path: &[u8], bytes: &[u8]) -> bool {
+    let mut name = io::buffer();
+    let part = make_part(path, &mut name);
+    if part.file < 0 {
+        files::trouble(path);
+        return false;
+    }
+    replace(part.file, paths::of_name(&name, part.length), path, bytes)
+}
+
+fn write_standard(bytes: &[u8]) -> bool {
     if io::write_all(STDOUT_FILENO, bytes) {
         return true;
     }
-    files::trouble_with_output(page);
+    files::trouble_with_output();
     false
 }
 
-// Writes a file whole: under another name in the same folder first, which then takes the place of what was there.
-pub fn write(page: &mut Page, path: &[u8], output: Output, name: &[u8], bytes: &[u8]) -> bool {
-    if output.standard {
-        return write_standard(page, bytes);
+// Writes the file behind a name and its links, or standard output for `-`; nothing where no file is named.
+pub fn write(path: &[u8], bytes: &[u8]) -> bool {
+    if path.len() == 0 {
+        return true;
     }
-    let mut room = io::buffer();
-    let part = make_part(page, name, &mut room);
-    if part.file < 0 {
-        files::trouble(page, path);
-        return false;
+    if paths::is_dash(path) {
+        return write_standard(bytes);
     }
-    replace(
-        page,
-        path,
-        part.file,
-        paths::of_name(&room, part.length),
-        name,
-        bytes,
-        output.seen,
-    )
+    let mut name = io::buffer();
+    let length = paths::behind_links(path, &mut name);
+    write_whole(paths::of_name(&name, length), bytes)
 }

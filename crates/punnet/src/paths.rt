@@ -60,6 +60,22 @@ pub fn folder_length(path: &[u8]) -> usize {
     folder
 }
 
+// The sum of two lengths, or the greatest.
+pub fn longer(a: usize, b: usize) -> usize {
+    if usize::MAX - b < a {
+        return usize::MAX;
+    }
+    a + b
+}
+
+// The first bytes of a path, as many as it may have.
+pub fn cut<'a>(path: &'a [u8], longest: usize) -> &'a [u8] {
+    if path.len() <= longest {
+        return path;
+    }
+    &path[..longest]
+}
+
 // As much of a path as leaves room for a 0, and then zeros.
 pub fn ended(path: &[u8]) -> Name
     ensures { λ r. ⌜ Ended r ⌝ }
