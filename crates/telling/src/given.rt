@@ -125,30 +125,24 @@ fn are_entries(bytes: &[u8]) -> bool {
     true
 }
 
-// What a file seems to be that is no image.
-fn seems(file: &[u8]) -> u32 {
-    if file.len() == 0 {
-        return EMPTY;
-    }
-    if is_text(file) {
-        return TEXT;
-    }
-    if are_entries(file) {
-        return ENTRIES;
-    }
-    NOTHING
-}
-
 // What was given in place of an image, with this refusal.
 pub fn instead(file: &[u8], refusal: u8) -> Hint {
-    let number = seems(file);
-    if (number == NOTHING) & (refusal == OTHER_EDITION) {
-        return Hint {
-            column: 0,
-            number: EDITION,
-            name: 0,
-            value: image::edition(file) as usize,
-        };
+    if file.len() == 0 {
+        return hints::at(0, EMPTY);
     }
-    hints::at(0, number)
+    if is_text(file) {
+        return hints::at(0, TEXT);
+    }
+    if are_entries(file) {
+        return hints::at(0, ENTRIES);
+    }
+    if refusal != OTHER_EDITION {
+        return hints::at(0, NOTHING);
+    }
+    Hint {
+        column: 0,
+        number: EDITION,
+        name: 0,
+        value: image::edition(file) as usize,
+    }
 }

@@ -96,22 +96,17 @@ fn of_run(run: &[u8], is_first: bool) -> u32 {
     if is_first & (runs::mnemonic(run) != NOTHING) {
         return NOTHING;
     }
+    if is_digit(first) & (run.len() <= DIGITS) {
+        return NOTHING;
+    }
     if is_digit(first) {
-        return of_number(run.len());
+        return LONG_NUMBER;
     }
     if runs::WORD < run.len() {
         return LONG_WORD;
     }
     if (run.len() == 1) & !is_first & !is_reserved(first as u16) {
         return ONE_LETTER;
-    }
-    NOTHING
-}
-
-// What is wrong with so many digits.
-fn of_number(length: usize) -> u32 {
-    if DIGITS < length {
-        return LONG_NUMBER;
     }
     NOTHING
 }
@@ -207,8 +202,9 @@ fn declaring(text: &[u8], key: u16) -> usize {
     0
 }
 
-fn is_operator(b: u8) -> bool {
-    match b {
+// Whether an operator stands at a place.
+fn has_operator(code: &[u8], place: usize) -> bool {
+    match parts::byte(code, place) {
         b'+' => true,
         b'-' => true,
         b'*' => true,
@@ -240,18 +236,18 @@ fn behind_operand(code: &[u8], sign: usize) -> usize {
     parts::past_blanks(code, runs::end(code, start))
 }
 
-fn has_operator(code: &[u8], place: usize) -> bool {
-    is_operator(parts::byte(code, place))
-}
-
 // A line with an equals sign behind its first run.
 fn of_setting(code: &[u8]) -> Hint {
+    let first = runs::first(code);
+    if of_run(runs::at(code, first), false) != NOTHING {
+        return at(first, ONE_LETTER);
+    }
     let operator = behind_operand(code, runs::second(code));
     let next = behind_operand(code, operator);
     if has_operator(code, operator) & has_operator(code, next) {
         return at(next, SECOND_OPERATOR);
     }
-    at(runs::first(code), NO_FORM)
+    at(first, NO_FORM)
 }
 
 // A line that begins with a mnemonic.
@@ -271,29 +267,20 @@ fn is_number_for_label(run: &[u8], mnemonic: u32) -> bool {
     is_digit(parts::byte(run, 0))
 }
 
-// How a line begins that is no statement, and neither with a mnemonic nor with what is set.
-fn of_word(run: &[u8]) -> u32 {
-    if Variable::number_of(runs::key(run)) != 0 {
-        return NO_EQUALS;
-    }
-    NO_STATEMENT
-}
-
 // How a line begins that is no statement.
 fn of_beginning(code: &[u8]) -> Hint {
     let mnemonic = runs::beginning(code);
     if mnemonic != NOTHING {
         return of_mnemonic(code, mnemonic);
     }
+    if parts::byte(code, runs::second(code)) == b'=' {
+        return of_setting(code);
+    }
     let first = runs::first(code);
-    let run = runs::at(code, first);
-    if parts::byte(code, runs::second(code)) != b'=' {
-        return at(first, of_word(run));
+    if Variable::number_of(runs::key(runs::at(code, first))) != 0 {
+        return at(first, NO_EQUALS);
     }
-    if of_run(run, false) != NOTHING {
-        return at(first, ONE_LETTER);
-    }
-    of_setting(code)
+    at(first, NO_STATEMENT)
 }
 
 // The first byte that stands wrong on a line.

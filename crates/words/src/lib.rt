@@ -72,6 +72,9 @@ pub const TURNS_ASKED: u32 = 22;
 
 pub const FIRST_TEN: u32 = 23;
 
+// No command has this number: it stands for all of them, and for what the text on the tool's use says besides.
+pub const EVERY_COMMAND: u32 = 0;
+
 // The bytes of the table, the place of the first line for people, the number of lines, and the bytes of the longest line with its end.
 // What is sought most often stands first.
 pub const SIZE: usize = 6244;
@@ -413,6 +416,9 @@ fn is_named(at: usize, command: u32) -> bool {
 // Whether the byte at a place of the text on the tool's use is on a command, by whether the byte before it is. What is on a command begins
 // with the tool's name and the command's behind two blanks; the lines below are set in further.
 pub fn is_on_command(at: usize, command: u32, before: bool) -> bool {
+    if command == EVERY_COMMAND {
+        return true;
+    }
     if at == 0 {
         return false;
     }
