@@ -4,8 +4,8 @@ use crate::marks::NOTHING;
 use crate::runs;
 use program::Variable;
 use program::names::is_digit;
-use program::names::is_letter;
 use program::names::is_reserved;
+use program::names::is_user_name;
 use reading::Reading;
 
 // The column of what is wrong, from 1; the number of its words, 0 where there are none; and the name and the number that they speak of.
@@ -118,7 +118,8 @@ fn is_big(run: &[u8]) -> bool {
 }
 
 // How a name is declared that is wanted as a label or as a variable; nothing where it is so.
-fn of_kind(found: u8, wanted: u8) -> u32 {
+fn of_kind(text: &[u8], key: u16, wanted: u8) -> u32 {
+    let found = names::declared_as(text, key);
     if found == wanted {
         return NOTHING;
     }
@@ -132,14 +133,13 @@ fn of_kind(found: u8, wanted: u8) -> u32 {
 // How the name is declared that a run is, if it is one of the user's: a label's, or else a variable's.
 fn of_user(text: &[u8], run: &[u8], is_label: bool) -> u32 {
     let key = runs::key(run);
-    if !is_letter(parts::byte(run, 0)) | is_reserved(key) {
+    if !is_user_name(key) {
         return NOTHING;
     }
-    let found = names::declared_as(text, key);
     if is_label {
-        return of_kind(found, Reading::LABEL);
+        return of_kind(text, key, Reading::LABEL);
     }
-    of_kind(found, Reading::DECLARED)
+    of_kind(text, key, Reading::DECLARED)
 }
 
 // Whether a run is what a refusal points at. One run of the line is told apart: its first, or the name of a label.
@@ -250,21 +250,14 @@ fn of_setting(code: &[u8]) -> Hint {
     at(first, NO_FORM)
 }
 
-// A line that begins with a mnemonic.
+// A line that begins with a mnemonic: a number stands where a label's name is wanted, other than the one that OE takes, or what it takes.
 fn of_mnemonic(code: &[u8], mnemonic: u32) -> Hint {
-    let run = runs::at(code, runs::second(code));
-    if runs::wants_label(mnemonic) & is_number_for_label(run, mnemonic) {
-        return at(runs::second(code), NUMBER_FOR_LABEL);
+    let second = runs::second(code);
+    let is_zero = (mnemonic == runs::OE) & (runs::key(runs::at(code, second)) == ZERO);
+    if runs::wants_label(mnemonic) & is_digit(parts::byte(code, second)) & !is_zero {
+        return at(second, NUMBER_FOR_LABEL);
     }
     at(runs::first(code), mnemonic)
-}
-
-// A number, other than the one that OE takes.
-fn is_number_for_label(run: &[u8], mnemonic: u32) -> bool {
-    if (mnemonic == runs::OE) & (runs::key(run) == ZERO) {
-        return false;
-    }
-    is_digit(parts::byte(run, 0))
 }
 
 // How a line begins that is no statement.
