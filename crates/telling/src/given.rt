@@ -7,26 +7,26 @@ use events::Event;
 use events::Record;
 
 // The faults of an event, by the numbers of their hints.
-const FALLING: u32 = 44;
+const FALLING: u32 = 43;
 
-const INPUT_NUMBER: u32 = 45;
+const INPUT_NUMBER: u32 = 44;
 
-const INPUT_VALUE: u32 = 46;
+const INPUT_VALUE: u32 = 45;
 
-const FAR_PLACE: u32 = 47;
+const FAR_PLACE: u32 = 46;
 
-const NO_KIND: u32 = 48;
+const NO_KIND: u32 = 47;
 
-const NOT_ZERO: u32 = 49;
+const NOT_ZERO: u32 = 48;
 
 // What a file seems to be.
-const TEXT: u32 = 50;
+const TEXT: u32 = 49;
 
-const ENTRIES: u32 = 51;
+const ENTRIES: u32 = 50;
 
-const EMPTY: u32 = 52;
+const EMPTY: u32 = 51;
 
-pub const EDITION: u32 = 53;
+pub const EDITION: u32 = 52;
 
 // The refusal of an image of another edition.
 const OTHER_EDITION: u8 = 22;
@@ -142,7 +142,6 @@ pub fn instead(file: &[u8], refusal: u8) -> Hint {
     Hint {
         column: 0,
         number: EDITION,
-        name: 0,
-        value: image::edition(file) as usize,
+        name: image::edition(file),
     }
 }

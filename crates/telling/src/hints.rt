@@ -8,12 +8,12 @@ use program::names::is_reserved;
 use program::names::is_user_name;
 use reading::Reading;
 
-// The column of what is wrong, from 1; the number of its words, 0 where there are none; and the name and the number that they speak of.
+// The column of what is wrong, from 1; the number of its words, 0 where there are none; and the key of the name that they speak of, or the
+// edition.
 pub struct Hint {
     pub column: usize,
     pub number: u32,
     pub name: u16,
-    pub value: usize,
 }
 
 // The refusals of a line that point at more than its beginning; those of a line by itself are known to its reading.
@@ -47,9 +47,7 @@ const IS_VARIABLE: u32 = 40;
 
 const IS_LABEL: u32 = 41;
 
-pub const DECLARED_ON: u32 = 42;
-
-const READ_ONLY: u32 = 43;
+const READ_ONLY: u32 = 42;
 
 // The longest runs of digits.
 const DIGITS: usize = 10;
@@ -64,21 +62,6 @@ pub fn at(place: usize, number: u32) -> Hint {
         column: column(place),
         number,
         name: 0,
-        value: 0,
-    }
-}
-
-// What is wrong with a name at a place of a line, and for one that is declared before, where.
-fn named(text: &[u8], name: u16, place: usize, number: u32) -> Hint {
-    let mut value: usize = 0;
-    if number == DECLARED_ON {
-        value = declaring(text, name);
-    }
-    Hint {
-        column: column(place),
-        number,
-        name,
-        value,
     }
 }
 
@@ -179,27 +162,6 @@ fn stored_place(code: &[u8]) -> usize {
         return runs::second(code);
     }
     runs::first(code)
-}
-
-// Whether a line declares a name.
-fn declares(line: &[u8], key: u16) -> bool {
-    let reading = reading::read_line(line);
-    reading.name == key
-}
-
-// The first line of a text, from 1, that declares a name; 0 where there is none.
-fn declaring(text: &[u8], key: u16) -> usize {
-    let mut line: usize = 1;
-    let mut at: usize = 0;
-    while at < text.len() {
-        let span = text::line_at(text, at);
-        if declares(parts::between(text, at, span.end), key) {
-            return line;
-        }
-        line += 1;
-        at = span.next;
-    }
-    0
 }
 
 // Whether an operator stands at a place.
@@ -318,7 +280,6 @@ fn place_of(text: &[u8], code: &[u8], refusal: u8) -> usize {
 // What is wrong at that place.
 fn number_of(text: &[u8], code: &[u8], place: usize, refusal: u8) -> u32 {
     match refusal {
-        REPEATED => DECLARED_ON,
         UNKNOWN => of_user(text, runs::at(code, place), place == label_place(code)),
         STORED => READ_ONLY,
         _ => NOTHING,
@@ -336,5 +297,9 @@ pub fn of_line(text: &[u8], line: &[u8], refusal: u8) -> Hint {
     if number == NOTHING {
         return at(place, NOTHING);
     }
-    named(text, runs::key(runs::at(code, place)), place, number)
+    Hint {
+        column: column(place),
+        number,
+        name: runs::key(runs::at(code, place)),
+    }
 }

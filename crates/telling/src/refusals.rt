@@ -38,19 +38,19 @@ fn set_in(line: Line, shown: &[u8]) -> Line {
 
 // The name that a hint begins with.
 fn name_before(line: Line, hint: Hint) -> Line {
-    if (hint.name == 0) | (hint.number == hints::UNDECLARED) {
+    if (hint.name == 0) | (hint.number == hints::UNDECLARED) | (hint.number == given::EDITION) {
         return line;
     }
     crate::key(line, hint.name).byte(b' ')
 }
 
-// The name or the number that a hint ends with.
+// The name or the edition that a hint ends with.
 fn behind(line: Line, hint: Hint) -> Line {
     if hint.number == hints::UNDECLARED {
         return crate::key(line.byte(b' '), hint.name);
     }
-    if (hint.number == hints::DECLARED_ON) | (hint.number == given::EDITION) {
-        return line.byte(b' ').number(hint.value as u64);
+    if hint.number == given::EDITION {
+        return line.byte(b' ').number(hint.name as u64);
     }
     line
 }
