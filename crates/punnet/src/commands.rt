@@ -5,6 +5,7 @@ use bench::Ran;
 use libc::STDOUT_FILENO;
 use telling::refusals;
 use telling::state;
+use telling::trace;
 use writing::Line;
 use writing::Page;
 
@@ -26,6 +27,9 @@ const PAGE_LOST: u32 = 18;
 
 // No answer has a higher number.
 const MOST_NUMBER: u64 = 999;
+
+// More pages than the longest run fills.
+const MOST_PAGES: u8 = 64;
 
 // The refusal of too many turns; those of an image are below it.
 const MANY_TURNS: u8 = 34;
@@ -75,12 +79,20 @@ fn put_help(page: &mut Page, word: &[u8]) -> usize {
     }
     let number = scripts::digits(word);
     if number.fault != scripts::NO_FAULT {
-        return telling::help_of(page, words::number_for(words::COMMAND, word));
+        return put_help_of(page, words::number_for(words::COMMAND, word));
     }
     if MOST_NUMBER < number.size {
         return 0;
     }
     telling::explain(page, number.size as u32)
+}
+
+// What is told of a command, if it is one.
+fn put_help_of(page: &mut Page, command: u32) -> usize {
+    if command == words::EVERY_COMMAND {
+        return 0;
+    }
+    telling::help_of(page, command)
 }
 
 pub fn version() -> u8 {
@@ -139,14 +151,6 @@ pub fn start_values(image: &[u8]) -> [i32; 64] {
     state.variables
 }
 
-// The records of a run at the front of a buffer.
-pub fn records_of<'a>(buffer: &'a [u8], count: usize) -> &'a [u8] {
-    if events::Event::MOST < count {
-        return parts::front(buffer, 0);
-    }
-    parts::front(buffer, events::script::SIZE * count)
-}
-
 // Tells of a file what a line says.
 pub fn tell_of(path: &[u8], line: Line) -> u8 {
     let mut page = writing::page();
@@ -169,12 +173,12 @@ fn counts(image: &[u8]) -> Line {
     line.end()
 }
 
-// Puts how a run ended behind what a page holds.
-pub fn put_end(page: &mut Page, before: usize, image: &[u8], ran: Ran) -> usize {
+// Tells how a run ended, behind what a page holds.
+fn tell_end(to: &[u8], page: &mut Page, before: usize, image: &[u8], ran: Ran) -> u8 {
     let end = ran.state;
     let values = end.variables;
-    let held = state::put_end(page, before, ran.reason, ran.turns, ran.records);
-    state::put(
+    let mut held = state::put_end(page, before, ran.reason, ran.turns, ran.records);
+    held = state::put(
         page,
         held,
         image,
@@ -182,5 +186,47 @@ pub fn put_end(page: &mut Page, before: usize, image: &[u8], ran: Ran) -> usize 
         end.value,
         values,
         start_values(image),
-    )
+    );
+    done_with(to, page, held)
+}
+
+// Tells a run turn by turn, page by page, and how it ended.
+pub fn tell_turns(
+    text: &[u8],
+    image: &[u8],
+    events: &[u8],
+    records: &[u8],
+    visits: &[u8],
+    turns: usize,
+    ran: Ran,
+) -> u8 {
+    let mut page = writing::page();
+    let mut mark = trace::begun(&mut page);
+    for _ in 0..MOST_PAGES {
+        mark = trace::put(&mut page, mark, text, image, events, records, visits, turns);
+        if turns <= mark.turn {
+            break;
+        }
+        if done(&page, mark.held) != ACCEPTED {
+            return TROUBLE;
+        }
+        mark.held = 0;
+    }
+    tell_end(&text[..0], &mut page, mark.held, image, ran)
+}
+
+// Tells what a run recorded, page by page, and how it ended; the records may be kept in a file.
+pub fn tell_records(to: &[u8], image: &[u8], records: &[u8], ran: Ran) -> u8 {
+    let mut page = writing::page();
+    let mut mark = trace::put_records(&mut page, 0, image, records);
+    for _ in 0..MOST_PAGES {
+        if ran.records <= mark.record {
+            break;
+        }
+        if done_with(to, &page, mark.held) != ACCEPTED {
+            return TROUBLE;
+        }
+        mark = trace::put_records(&mut page, mark.record, image, records);
+    }
+    tell_end(to, &mut page, mark.held, image, ran)
 }

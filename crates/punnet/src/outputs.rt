@@ -145,8 +145,7 @@ pub fn may_replace(path: &[u8], kind: u32, force: bool, first: Seen, second: See
 
 // The name of a file that is being written: `.part` and a number behind the name that is meant, which is cut where it is too long for that.
 fn put_part(part: &mut Name, path: &[u8], k: u16) -> usize {
-    let longest = paths::longer(paths::folder_length(path), LONGEST_BASE);
-    let length = paths::put(part, 0, paths::cut(path, longest));
+    let length = paths::put(part, 0, paths::cut(path, LONGEST_BASE));
     let ending = telling::part_number(Line::empty(), words::UNFINISHED, k as u64);
     paths::put_line(part, length, ending)
 }

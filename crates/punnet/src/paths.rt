@@ -60,20 +60,21 @@ pub fn folder_length(path: &[u8]) -> usize {
     folder
 }
 
-// The sum of two lengths, or the greatest.
-pub fn longer(a: usize, b: usize) -> usize {
-    if usize::MAX - b < a {
-        return usize::MAX;
-    }
-    a + b
-}
-
-// The first bytes of a path, as many as it may have.
+// The path, its last name cut to so many bytes at most.
 pub fn cut<'a>(path: &'a [u8], longest: usize) -> &'a [u8] {
-    if path.len() <= longest {
+    let base = parts::back(path, folder_length(path));
+    if base.len() <= longest {
         return path;
     }
-    &path[..longest]
+    parts::front(path, without(path.len(), base.len() - longest))
+}
+
+// So many less, as far as there are so many.
+fn without(count: usize, less: usize) -> usize {
+    if count < less {
+        return 0;
+    }
+    count - less
 }
 
 // As much of a path as leaves room for a 0, and then zeros.

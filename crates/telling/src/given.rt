@@ -7,26 +7,26 @@ use events::Event;
 use events::Record;
 
 // The faults of an event, by the numbers of their hints.
-const FALLING: u32 = 44;
+const FALLING: u32 = 43;
 
-const INPUT_NUMBER: u32 = 45;
+const INPUT_NUMBER: u32 = 44;
 
-const INPUT_VALUE: u32 = 46;
+const INPUT_VALUE: u32 = 45;
 
-const FAR_PLACE: u32 = 47;
+const FAR_PLACE: u32 = 46;
 
-const NO_KIND: u32 = 48;
+const NO_KIND: u32 = 47;
 
-const NOT_ZERO: u32 = 49;
+const NOT_ZERO: u32 = 48;
 
 // What a file seems to be.
-const TEXT: u32 = 50;
+const TEXT: u32 = 49;
 
-const ENTRIES: u32 = 51;
+const ENTRIES: u32 = 50;
 
-const EMPTY: u32 = 52;
+const EMPTY: u32 = 51;
 
-pub const EDITION: u32 = 53;
+pub const EDITION: u32 = 52;
 
 // The refusal of an image of another edition.
 const OTHER_EDITION: u8 = 22;
@@ -125,30 +125,23 @@ fn are_entries(bytes: &[u8]) -> bool {
     true
 }
 
-// What a file seems to be that is no image.
-fn seems(file: &[u8]) -> u32 {
-    if file.len() == 0 {
-        return EMPTY;
-    }
-    if is_text(file) {
-        return TEXT;
-    }
-    if are_entries(file) {
-        return ENTRIES;
-    }
-    NOTHING
-}
-
 // What was given in place of an image, with this refusal.
 pub fn instead(file: &[u8], refusal: u8) -> Hint {
-    let number = seems(file);
-    if (number == NOTHING) & (refusal == OTHER_EDITION) {
-        return Hint {
-            column: 0,
-            number: EDITION,
-            name: 0,
-            value: image::edition(file) as usize,
-        };
+    if file.len() == 0 {
+        return hints::at(0, EMPTY);
     }
-    hints::at(0, number)
+    if is_text(file) {
+        return hints::at(0, TEXT);
+    }
+    if are_entries(file) {
+        return hints::at(0, ENTRIES);
+    }
+    if refusal != OTHER_EDITION {
+        return hints::at(0, NOTHING);
+    }
+    Hint {
+        column: 0,
+        number: EDITION,
+        name: image::edition(file),
+    }
 }

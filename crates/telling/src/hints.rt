@@ -4,16 +4,16 @@ use crate::marks::NOTHING;
 use crate::runs;
 use program::Variable;
 use program::names::is_digit;
-use program::names::is_letter;
 use program::names::is_reserved;
+use program::names::is_user_name;
 use reading::Reading;
 
-// The column of what is wrong, from 1; the number of its words, 0 where there are none; and the name and the number that they speak of.
+// The column of what is wrong, from 1; the number of its words, 0 where there are none; and the key of the name that they speak of, or the
+// edition.
 pub struct Hint {
     pub column: usize,
     pub number: u32,
     pub name: u16,
-    pub value: usize,
 }
 
 // The refusals of a line that point at more than its beginning; those of a line by itself are known to its reading.
@@ -47,9 +47,7 @@ const IS_VARIABLE: u32 = 40;
 
 const IS_LABEL: u32 = 41;
 
-pub const DECLARED_ON: u32 = 42;
-
-const READ_ONLY: u32 = 43;
+const READ_ONLY: u32 = 42;
 
 // The longest runs of digits.
 const DIGITS: usize = 10;
@@ -64,21 +62,6 @@ pub fn at(place: usize, number: u32) -> Hint {
         column: column(place),
         number,
         name: 0,
-        value: 0,
-    }
-}
-
-// What is wrong with a name at a place of a line, and for one that is declared before, where.
-fn named(text: &[u8], name: u16, place: usize, number: u32) -> Hint {
-    let mut value: usize = 0;
-    if number == DECLARED_ON {
-        value = declaring(text, name);
-    }
-    Hint {
-        column: column(place),
-        number,
-        name,
-        value,
     }
 }
 
@@ -96,22 +79,17 @@ fn of_run(run: &[u8], is_first: bool) -> u32 {
     if is_first & (runs::mnemonic(run) != NOTHING) {
         return NOTHING;
     }
+    if is_digit(first) & (run.len() <= DIGITS) {
+        return NOTHING;
+    }
     if is_digit(first) {
-        return of_number(run.len());
+        return LONG_NUMBER;
     }
     if runs::WORD < run.len() {
         return LONG_WORD;
     }
     if (run.len() == 1) & !is_first & !is_reserved(first as u16) {
         return ONE_LETTER;
-    }
-    NOTHING
-}
-
-// What is wrong with so many digits.
-fn of_number(length: usize) -> u32 {
-    if DIGITS < length {
-        return LONG_NUMBER;
     }
     NOTHING
 }
@@ -123,7 +101,8 @@ fn is_big(run: &[u8]) -> bool {
 }
 
 // How a name is declared that is wanted as a label or as a variable; nothing where it is so.
-fn of_kind(found: u8, wanted: u8) -> u32 {
+fn of_kind(text: &[u8], key: u16, wanted: u8) -> u32 {
+    let found = names::declared_as(text, key);
     if found == wanted {
         return NOTHING;
     }
@@ -137,14 +116,13 @@ fn of_kind(found: u8, wanted: u8) -> u32 {
 // How the name is declared that a run is, if it is one of the user's: a label's, or else a variable's.
 fn of_user(text: &[u8], run: &[u8], is_label: bool) -> u32 {
     let key = runs::key(run);
-    if !is_letter(parts::byte(run, 0)) | is_reserved(key) {
+    if !is_user_name(key) {
         return NOTHING;
     }
-    let found = names::declared_as(text, key);
     if is_label {
-        return of_kind(found, Reading::LABEL);
+        return of_kind(text, key, Reading::LABEL);
     }
-    of_kind(found, Reading::DECLARED)
+    of_kind(text, key, Reading::DECLARED)
 }
 
 // Whether a run is what a refusal points at. One run of the line is told apart: its first, or the name of a label.
@@ -186,29 +164,9 @@ fn stored_place(code: &[u8]) -> usize {
     runs::first(code)
 }
 
-// Whether a line declares a name.
-fn declares(line: &[u8], key: u16) -> bool {
-    let reading = reading::read_line(line);
-    reading.name == key
-}
-
-// The first line of a text, from 1, that declares a name; 0 where there is none.
-fn declaring(text: &[u8], key: u16) -> usize {
-    let mut line: usize = 1;
-    let mut at: usize = 0;
-    while at < text.len() {
-        let span = text::line_at(text, at);
-        if declares(parts::between(text, at, span.end), key) {
-            return line;
-        }
-        line += 1;
-        at = span.next;
-    }
-    0
-}
-
-fn is_operator(b: u8) -> bool {
-    match b {
+// Whether an operator stands at a place.
+fn has_operator(code: &[u8], place: usize) -> bool {
+    match parts::byte(code, place) {
         b'+' => true,
         b'-' => true,
         b'*' => true,
@@ -240,43 +198,28 @@ fn behind_operand(code: &[u8], sign: usize) -> usize {
     parts::past_blanks(code, runs::end(code, start))
 }
 
-fn has_operator(code: &[u8], place: usize) -> bool {
-    is_operator(parts::byte(code, place))
-}
-
 // A line with an equals sign behind its first run.
 fn of_setting(code: &[u8]) -> Hint {
+    let first = runs::first(code);
+    if of_run(runs::at(code, first), false) != NOTHING {
+        return at(first, ONE_LETTER);
+    }
     let operator = behind_operand(code, runs::second(code));
     let next = behind_operand(code, operator);
     if has_operator(code, operator) & has_operator(code, next) {
         return at(next, SECOND_OPERATOR);
     }
-    at(runs::first(code), NO_FORM)
+    at(first, NO_FORM)
 }
 
-// A line that begins with a mnemonic.
+// A line that begins with a mnemonic: a number stands where a label's name is wanted, other than the one that OE takes, or what it takes.
 fn of_mnemonic(code: &[u8], mnemonic: u32) -> Hint {
-    let run = runs::at(code, runs::second(code));
-    if runs::wants_label(mnemonic) & is_number_for_label(run, mnemonic) {
-        return at(runs::second(code), NUMBER_FOR_LABEL);
+    let second = runs::second(code);
+    let is_zero = (mnemonic == runs::OE) & (runs::key(runs::at(code, second)) == ZERO);
+    if runs::wants_label(mnemonic) & is_digit(parts::byte(code, second)) & !is_zero {
+        return at(second, NUMBER_FOR_LABEL);
     }
     at(runs::first(code), mnemonic)
-}
-
-// A number, other than the one that OE takes.
-fn is_number_for_label(run: &[u8], mnemonic: u32) -> bool {
-    if (mnemonic == runs::OE) & (runs::key(run) == ZERO) {
-        return false;
-    }
-    is_digit(parts::byte(run, 0))
-}
-
-// How a line begins that is no statement, and neither with a mnemonic nor with what is set.
-fn of_word(run: &[u8]) -> u32 {
-    if Variable::number_of(runs::key(run)) != 0 {
-        return NO_EQUALS;
-    }
-    NO_STATEMENT
 }
 
 // How a line begins that is no statement.
@@ -285,15 +228,14 @@ fn of_beginning(code: &[u8]) -> Hint {
     if mnemonic != NOTHING {
         return of_mnemonic(code, mnemonic);
     }
+    if parts::byte(code, runs::second(code)) == b'=' {
+        return of_setting(code);
+    }
     let first = runs::first(code);
-    let run = runs::at(code, first);
-    if parts::byte(code, runs::second(code)) != b'=' {
-        return at(first, of_word(run));
+    if Variable::number_of(runs::key(runs::at(code, first))) != 0 {
+        return at(first, NO_EQUALS);
     }
-    if of_run(run, false) != NOTHING {
-        return at(first, ONE_LETTER);
-    }
-    of_setting(code)
+    at(first, NO_STATEMENT)
 }
 
 // The first byte that stands wrong on a line.
@@ -338,7 +280,6 @@ fn place_of(text: &[u8], code: &[u8], refusal: u8) -> usize {
 // What is wrong at that place.
 fn number_of(text: &[u8], code: &[u8], place: usize, refusal: u8) -> u32 {
     match refusal {
-        REPEATED => DECLARED_ON,
         UNKNOWN => of_user(text, runs::at(code, place), place == label_place(code)),
         STORED => READ_ONLY,
         _ => NOTHING,
@@ -356,5 +297,9 @@ pub fn of_line(text: &[u8], line: &[u8], refusal: u8) -> Hint {
     if number == NOTHING {
         return at(place, NOTHING);
     }
-    named(text, runs::key(runs::at(code, place)), place, number)
+    Hint {
+        column: column(place),
+        number,
+        name: runs::key(runs::at(code, place)),
+    }
 }

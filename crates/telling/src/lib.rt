@@ -94,11 +94,7 @@ pub fn all_words(page: &mut Page) -> usize {
 }
 
 pub fn help(page: &mut Page) -> usize {
-    let mut held: usize = 0;
-    for i in 0..words::HELP_SIZE {
-        held = writing::put_byte(page, held, words::help_letter(i));
-    }
-    held
+    help_of(page, words::EVERY_COMMAND)
 }
 
 // What the text on the tool's use says on one command.

@@ -26,16 +26,9 @@ fn colon(line: Line) -> Line {
     crate::part(line, words::COLON)
 }
 
-// What is said by a number, to the end of the line: a refusal, or a fault of a script, which has no number for people.
-fn said(line: Line, kind: u8, number: u8) -> Line {
-    if kind == words::SCRIPT {
-        return crate::meaning(line, kind, number as u32).end();
-    }
-    crate::words(line, kind, number as u32).end()
-}
-
+// The words of a refusal, to the end of the line.
 fn refusal(line: Line, number: u8) -> Line {
-    said(line, words::REFUSAL, number)
+    crate::words(line, words::REFUSAL, number as u32).end()
 }
 
 // A line of a file, set in.
@@ -45,19 +38,19 @@ fn set_in(line: Line, shown: &[u8]) -> Line {
 
 // The name that a hint begins with.
 fn name_before(line: Line, hint: Hint) -> Line {
-    if (hint.name == 0) | (hint.number == hints::UNDECLARED) {
+    if (hint.name == 0) | (hint.number == hints::UNDECLARED) | (hint.number == given::EDITION) {
         return line;
     }
     crate::key(line, hint.name).byte(b' ')
 }
 
-// The name or the number that a hint ends with.
+// The name or the edition that a hint ends with.
 fn behind(line: Line, hint: Hint) -> Line {
     if hint.number == hints::UNDECLARED {
         return crate::key(line.byte(b' '), hint.name);
     }
-    if (hint.number == hints::DECLARED_ON) | (hint.number == given::EDITION) {
-        return line.byte(b' ').number(hint.value as u64);
+    if hint.number == given::EDITION {
+        return line.byte(b' ').number(hint.name as u64);
     }
     line
 }
@@ -78,10 +71,15 @@ fn put_behind(page: &mut Page, before: usize, path: &[u8], line: Line) -> usize 
     line.onto(page, held)
 }
 
-// What is said of a line, with the line itself and a hint.
-fn shown(wrong: &[u8], line: usize, kind: u8, number: u8, hint: Hint) -> Line {
-    let told = said(place(line, hint.column), kind, number);
+// What is said of a line by words from a place of their table on, with the line itself and a hint.
+fn shown(wrong: &[u8], line: usize, start: usize, hint: Hint) -> Line {
+    let told = crate::line_of_words(place(line, hint.column), start).end();
     hinted(set_in(told, wrong), hint)
+}
+
+// Where the words of a refusal begin.
+fn refusal_start(number: u8) -> usize {
+    words::line_for(words::REFUSAL, number as u32)
 }
 
 // A refusal of a whole file.
@@ -100,7 +98,7 @@ pub fn put_of_line(
 ) -> usize {
     let wrong = parts::line(text, line);
     let hint = hints::of_line(text, wrong, number);
-    let told = shown(wrong, line, words::REFUSAL, number, hint);
+    let told = shown(wrong, line, refusal_start(number), hint);
     put_behind(page, before, path, told)
 }
 
@@ -195,7 +193,7 @@ pub fn put_of_script_event(
 ) -> usize {
     let wrong = parts::line(text, line);
     let hint = given::on_line(wrong, events, index);
-    let told = shown(wrong, line, words::REFUSAL, number, hint);
+    let told = shown(wrong, line, refusal_start(number), hint);
     put_behind(page, 0, path, told)
 }
 
@@ -212,7 +210,12 @@ fn of_turns(number: u8) -> Line {
 pub fn put_of_script(page: &mut Page, path: &[u8], text: &[u8], line: usize, fault: u8) -> usize {
     let wrong = parts::line(text, line);
     let hint = given::in_script(wrong, fault);
-    let told = shown(wrong, line, words::SCRIPT, fault, hint);
+    let told = shown(
+        wrong,
+        line,
+        words::meaning_for(words::SCRIPT, fault as u32),
+        hint,
+    );
     put_behind(page, 0, path, told)
 }
 

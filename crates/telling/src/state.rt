@@ -34,11 +34,24 @@ fn position(position: i32, motion: u8, value: i32) -> Line {
     line.signed(value).end()
 }
 
+// The value of a variable; 0 where there is none.
+fn value_of(values: &[i32], number: usize) -> i32 {
+    if number < values.len() {
+        return values[number];
+    }
+    0
+}
+
 // The outputs, with a space before each.
-fn outputs(mut line: Line, image: &[u8], variables: [i32; 64]) -> Line {
+fn outputs(mut line: Line, image: &[u8], variables: &[i32]) -> Line {
     line = crate::part(line, words::OUTPUTS);
     for number in FIRST_OUTPUT..LAST_OUTPUT + 1 {
-        line = value(line.byte(b' '), image, number as u8, variables[number]);
+        line = value(
+            line.byte(b' '),
+            image,
+            number as u8,
+            value_of(variables, number),
+        );
     }
     line.end()
 }
@@ -57,16 +70,10 @@ fn change(image: &[u8], number: u8, now: i32, start: i32) -> Line {
 }
 
 // Every such variable.
-fn put_changes(
-    page: &mut Page,
-    before: usize,
-    image: &[u8],
-    now: [i32; 64],
-    start: [i32; 64],
-) -> usize {
+fn put_changes(page: &mut Page, before: usize, image: &[u8], now: &[i32], start: &[i32]) -> usize {
     let mut held = before;
     for k in 0..VARIABLES {
-        held = change(image, k as u8, now[k], start[k]).onto(page, held);
+        held = change(image, k as u8, value_of(now, k), value_of(start, k)).onto(page, held);
     }
     held
 }
@@ -93,6 +100,6 @@ pub fn put(
     start: [i32; 64],
 ) -> usize {
     let line = position(variables[POSITION], motion, value);
-    let at = outputs(line, image, variables).onto(page, held);
-    put_changes(page, at, image, variables, start)
+    let at = outputs(line, image, &variables).onto(page, held);
+    put_changes(page, at, image, &variables, &start)
 }

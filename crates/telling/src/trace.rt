@@ -6,11 +6,11 @@ use writing::Line;
 use writing::Page;
 
 // How far a run is told: the next turn, event and record, and what the page holds.
-struct Mark {
-    turn: usize,
-    event: usize,
-    record: usize,
-    held: usize,
+pub struct Mark {
+    pub turn: usize,
+    pub event: usize,
+    pub record: usize,
+    pub held: usize,
 }
 
 // The columns: turns, lines and statements, and what stands between two of them.
@@ -24,6 +24,9 @@ const GAP: usize = 2;
 
 // What a last turn has of the first column, with the dash before it.
 const BEFORE_DASH: usize = TURN_WIDTH - 1;
+
+// A page that holds this much is full: it has room for one line, and for the end of a run.
+const FULL: usize = writing::PAGE - 4 * writing::LINE;
 
 // No turn has this number.
 const NO_TURN: usize = 4294967296;
@@ -142,7 +145,7 @@ fn put_events(page: &mut Page, mark: Mark, events: &[u8]) -> Mark {
     let mut k = mark.event;
     let mut held = mark.held;
     while k < Event::MOST {
-        if turn_of(events, k) != mark.turn {
+        if (turn_of(events, k) != mark.turn) | (FULL <= held) {
             break;
         }
         held = event_line(entry(events, k)).onto(page, held);
@@ -228,6 +231,9 @@ fn put_step(
     turns: usize,
 ) -> Mark {
     let mark = put_events(page, before, events);
+    if FULL <= mark.held {
+        return mark;
+    }
     let record = turn_of(records, mark.record);
     let event = turn_of(events, mark.event);
     let end = stay_end(visits, turns, mark.turn, record, event);
@@ -236,20 +242,22 @@ fn put_step(
     put_turn(page, mark, end, statement, number, image, records)
 }
 
-// The whole run of a text: for its turns the places, and its events and records.
+// The run of a text from a mark on, as much of it as the page has room for: for its turns the places, and its events and records.
 pub fn put(
     page: &mut Page,
+    mark: Mark,
     text: &[u8],
     image: &[u8],
     events: &[u8],
     records: &[u8],
     visits: &[u8],
     turns: usize,
-) -> usize {
+) -> Mark {
     let mut lines = no_lines();
     put_lines(&mut lines, text);
-    put_all(
+    put_steps(
         page,
+        mark,
         text,
         all_lines(&lines),
         image,
@@ -260,8 +268,9 @@ pub fn put(
     )
 }
 
-fn put_all(
+fn put_steps(
     page: &mut Page,
+    before: Mark,
     text: &[u8],
     lines: &[u8],
     image: &[u8],
@@ -269,15 +278,10 @@ fn put_all(
     records: &[u8],
     visits: &[u8],
     turns: usize,
-) -> usize {
-    let mut mark = Mark {
-        turn: 0,
-        event: 0,
-        record: 0,
-        held: put_header(page),
-    };
+) -> Mark {
+    let mut mark = before;
     for _ in 0..turns {
-        if turns <= mark.turn {
+        if (turns <= mark.turn) | (FULL <= mark.held) {
             break;
         }
         mark = put_step(
@@ -292,22 +296,41 @@ fn put_all(
             turns,
         );
     }
-    mark.held
+    mark
 }
 
-fn put_header(page: &mut Page) -> usize {
-    crate::part(Line::empty(), words::HEADER)
-        .end()
-        .onto(page, 0)
-}
-
-// Each record on a line of its own, with its turn.
-pub fn put_records(page: &mut Page, image: &[u8], records: &[u8]) -> usize {
-    let mut held: usize = 0;
-    for k in 0..events::script::event_count(records) {
-        held = record_line(image, entry(records, k)).onto(page, held);
+// The first page of a run begins with a header, and nothing is told yet.
+pub fn begun(page: &mut Page) -> Mark {
+    Mark {
+        turn: 0,
+        event: 0,
+        record: 0,
+        held: header().onto(page, 0),
     }
-    held
+}
+
+fn header() -> Line {
+    crate::part(Line::empty(), words::HEADER).end()
+}
+
+// The records from a number on, each on a line of its own with its turn, as many as the page has room for.
+pub fn put_records(page: &mut Page, first: usize, image: &[u8], records: &[u8]) -> Mark {
+    let count = events::script::event_count(records);
+    let mut held: usize = 0;
+    let mut k = first;
+    while k < count {
+        if FULL <= held {
+            break;
+        }
+        held = record_line(image, entry(records, k)).onto(page, held);
+        k += 1;
+    }
+    Mark {
+        turn: 0,
+        event: 0,
+        record: k,
+        held,
+    }
 }
 
 fn record_line(image: &[u8], record: Event) -> Line {

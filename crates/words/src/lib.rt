@@ -76,13 +76,16 @@ pub const STANDARD_INPUT: u32 = 24;
 
 pub const VERSION: u32 = 25;
 
+// No command has this number: it stands for all of them, and for what the text on the tool's use says besides.
+pub const EVERY_COMMAND: u32 = 0;
+
 // The bytes of the table, the place of the first line for people, the number of lines, and the bytes of the longest line with its end.
 // What is sought most often stands first.
-pub const SIZE: usize = 6941;
+pub const SIZE: usize = 6912;
 
 pub const FIRST_FOR_PEOPLE: usize = 1944;
 
-const LINE_COUNT: usize = 175;
+const LINE_COUNT: usize = 174;
 
 pub const LONGEST: usize = 76;
 
@@ -227,18 +230,17 @@ hint 38: PR takes one number or variable
 hint 39: no line declares
 hint 40: is declared as a variable
 hint 41: is declared as a label
-hint 42: is declared on line
-hint 43: can only be read
-hint 44: the turn is below that of the event before
-hint 45: the input's number is not 1 to 4
-hint 46: the input's value is not 0 or 1
-hint 47: the position is outside -2,147,483,647 to 2,147,483,647
-hint 48: no such kind; 1 is input, 2 is arrived, 3 is position
-hint 49: bytes that must be 0 are not
-hint 50: this looks like a text
-hint 51: this looks like events or records
-hint 52: the file is empty
-hint 53: edition
+hint 42: can only be read
+hint 43: the turn is below that of the event before
+hint 44: the input's number is not 1 to 4
+hint 45: the input's value is not 0 or 1
+hint 46: the position is outside -2,147,483,647 to 2,147,483,647
+hint 47: no such kind; 1 is input, 2 is arrived, 3 is position
+hint 48: bytes that must be 0 are not
+hint 49: this looks like a text
+hint 50: this looks like events or records
+hint 51: the file is empty
+hint 52: edition
 script 1: no event; TURN arrived, TURN input N VALUE or TURN position VALUE
 script 2: a number that does not fit in an event
 usage 1: wants TEXT [EVENTS] [TURNS]
@@ -436,6 +438,9 @@ fn is_named(at: usize, command: u32) -> bool {
 // Whether the byte at a place of the text on the tool's use is on a command, by whether the byte before it is. What is on a command begins
 // with the tool's name and the command's behind two blanks; the lines below are set in further.
 pub fn is_on_command(at: usize, command: u32, before: bool) -> bool {
+    if command == EVERY_COMMAND {
+        return true;
+    }
     if at == 0 {
         return false;
     }

@@ -6,7 +6,7 @@
 // How many bytes a line and a page have room for.
 pub const LINE: usize = 2048;
 
-pub const PAGE: usize = 1048576;
+pub const PAGE: usize = 65536;
 
 pub struct Line {
     pub bytes: Room,

@@ -15,4 +15,4 @@ pub are-records-spec : {M : Type 1} → statement M
 are-records-spec =
     tie.close
     (tie.spec Inv-loop μ-loop (search needs) (search needs) (search needs) (search needs) (search needs) (search needs) (search needs)
-    (search needs) (search needs) (search needs) (search needs) (search needs) (search needs))
+    (search needs) (search needs))

@@ -15,4 +15,4 @@ pub put-changes-spec : {M : Type 1} → statement M
 put-changes-spec =
     tie.close
     (tie.spec Inv-loop μ-loop (search needs) (search needs) (search needs) (search needs) (search needs) (search needs) (search needs)
-    (search needs) (search needs) (search needs) (search needs) (search needs))
+    (search needs) (search needs) (search needs))
