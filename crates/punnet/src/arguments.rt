@@ -1,26 +1,13 @@
-// The arguments of the program: a command, its options, and what it works on.
+// The arguments of the program: a command, an option behind it if wanted, and what it works on.
 use crate::paths;
 use crate::paths::Name;
 
-// What is asked: where `-f` stands among the arguments, 0 where it does not; whether help is asked for; and the first argument that is wrong,
-// with its words, 0 where none is.
-pub struct Asked {
-    pub force: usize,
-    pub helps: bool,
-    pub wrong: usize,
-    pub fault: u32,
-}
-
-// What an argument is, besides a name or a number: an option by its number in the table of words, or wrong by its words.
-const PLAIN: u32 = 0;
-
+// Options, by their numbers in the table of words; one that is none, by the words for it.
 pub const SHORT_HELP: u32 = 8;
 
 pub const LONG_HELP: u32 = 9;
 
-const FORCE: u32 = 11;
-
-const EMPTY: u32 = 14;
+pub const FORCE: u32 = 11;
 
 pub const NO_OPTION: u32 = 15;
 
@@ -33,84 +20,32 @@ pub fn argument(i: usize, word: &mut Name) -> usize {
     length
 }
 
-// A word that begins as an option does: a dash, and something that is no digit.
-fn is_option(word: &[u8]) -> bool {
-    if word.len() < 2 {
-        return false;
+// The same, behind an option if there is one.
+pub fn argument_behind(option: bool, i: usize, word: &mut Name) -> usize {
+    if option {
+        return argument(one_more(i), word);
     }
-    (word[0] == b'-') & !program::names::is_digit(word[1])
+    argument(i, word)
 }
 
-fn kind_of(word: &[u8]) -> u32 {
-    if word.len() == 0 {
-        return EMPTY;
+fn one_more(i: usize) -> usize {
+    if i < usize::MAX {
+        return i + 1;
     }
-    if !is_option(word) {
-        return PLAIN;
-    }
-    let number = words::number_for(words::COMMAND, word);
-    if (number == FORCE) | (number == SHORT_HELP) | (number == LONG_HELP) {
-        return number;
-    }
-    NO_OPTION
+    i
 }
 
-fn kind_at(i: usize) -> u32 {
+// The option behind the command, if there is one.
+pub fn option() -> u32 {
     let mut word = io::buffer();
-    let length = argument(i, &mut word);
-    kind_of(paths::of_name(&word, length))
+    let length = argument(2, &mut word);
+    option_of(paths::of_name(&word, length))
 }
 
-// Goes over the arguments behind the command.
-pub fn read(count: usize) -> Asked {
-    let mut force: usize = 0;
-    let mut helps = false;
-    for i in 2..count {
-        let kind = kind_at(i);
-        if (kind == EMPTY) | (kind == NO_OPTION) {
-            return Asked {
-                force,
-                helps,
-                wrong: i,
-                fault: kind,
-            };
-        }
-        if kind == FORCE {
-            force = i;
-        }
-        if (kind == SHORT_HELP) | (kind == LONG_HELP) {
-            helps = true;
-        }
+fn option_of(word: &[u8]) -> u32 {
+    let number = words::number_for(words::COMMAND, word);
+    if (number == 0) & paths::is_dashed(word) {
+        return NO_OPTION;
     }
-    Asked {
-        force,
-        helps,
-        wrong: 0,
-        fault: 0,
-    }
-}
-
-// How many arguments there are where `-f` is not counted.
-pub fn counted(count: usize, force: usize) -> usize {
-    if force == 0 {
-        return count;
-    }
-    if count == 0 {
-        return count;
-    }
-    count - 1
-}
-
-// The argument with a number where `-f` is not counted.
-pub fn without_force(k: usize, force: usize, word: &mut Name) -> usize {
-    if force == 0 {
-        return argument(k, word);
-    }
-    if k < force {
-        return argument(k, word);
-    }
-    if usize::MAX <= k {
-        return 0;
-    }
-    argument(k + 1, word)
+    number
 }

@@ -1,11 +1,13 @@
 // What the commands share: statuses, refusals, and pages.
 use crate::files;
+use crate::outputs;
 use crate::paths;
 use bench::Ran;
 use libc::STDOUT_FILENO;
 use telling::refusals;
 use telling::state;
 use telling::trace;
+use telling::trace::Mark;
 use writing::Line;
 use writing::Page;
 
@@ -15,6 +17,11 @@ pub const ACCEPTED: u8 = 0;
 pub const REFUSED: u8 = 1;
 
 pub const TROUBLE: u8 = 2;
+
+// Commands that show a page, by their numbers in the table of words.
+pub const WORDS: u32 = 6;
+
+pub const VERSION: u32 = 10;
 
 // What is wrong with the use of a command.
 pub const NO_COMMAND: u32 = 6;
@@ -31,7 +38,7 @@ const MOST_NUMBER: u64 = 999;
 // More pages than the longest run fills.
 const MOST_PAGES: u8 = 64;
 
-// The refusal of too many turns; those of an image are below it.
+// The refusal of too many turns.
 const MANY_TURNS: u8 = 34;
 
 // Tells how a command is used.
@@ -63,16 +70,29 @@ pub fn done_with(path: &[u8], page: &Page, held: usize) -> u8 {
     status
 }
 
-// help [COMMAND | NUMBER]
-pub fn help(word: &[u8]) -> u8 {
+// words, --version, help [COMMAND | NUMBER]
+pub fn show(command: u32, word: &[u8]) -> u8 {
     let mut page = writing::page();
-    let held = put_help(&mut page, word);
+    let held = put(&mut page, command, word);
     if held == 0 {
         return usage(word, NO_HELP);
     }
     done(&page, held)
 }
 
+fn put(page: &mut Page, command: u32, word: &[u8]) -> usize {
+    match command {
+        WORDS => telling::all_words(page),
+        VERSION => version().onto(page, 0),
+        _ => put_help(page, word),
+    }
+}
+
+fn version() -> Line {
+    telling::part(Line::empty(), words::VERSION).end()
+}
+
+// What is told of all commands, of one, or of a number.
 fn put_help(page: &mut Page, word: &[u8]) -> usize {
     if word.len() == 0 {
         return telling::help(page);
@@ -87,33 +107,11 @@ fn put_help(page: &mut Page, word: &[u8]) -> usize {
     telling::explain(page, number.size as u32)
 }
 
-// What is told of a command, if it is one.
 fn put_help_of(page: &mut Page, command: u32) -> usize {
     if command == words::EVERY_COMMAND {
         return 0;
     }
     telling::help_of(page, command)
-}
-
-pub fn version() -> u8 {
-    let mut page = writing::page();
-    let held = telling::part(Line::empty(), words::VERSION)
-        .end()
-        .onto(&mut page, 0);
-    done(&page, held)
-}
-
-pub fn all_words() -> u8 {
-    let mut page = writing::page();
-    let held = telling::all_words(&mut page);
-    done(&page, held)
-}
-
-pub fn tell_usage() -> u8 {
-    let mut page = writing::page();
-    let held = telling::help(&mut page);
-    files::tell(&page, held);
-    TROUBLE
 }
 
 // A refusal of a text as a whole.
@@ -132,13 +130,10 @@ pub fn refuse_image(path: &[u8], image: &[u8], number: u8) -> u8 {
     REFUSED
 }
 
-// A refusal of a run, whose events were accepted: of the image, or of the turns.
-pub fn refuse_run(path: &[u8], image: &[u8], turns: &[u8], number: u8) -> u8 {
-    if number < MANY_TURNS {
-        return refuse_image(path, image, number);
-    }
+// A refusal of the turns.
+pub fn refuse_turns(word: &[u8]) -> u8 {
     let mut page = writing::page();
-    let held = refusals::put_of_turns(&mut page, turns, number);
+    let held = refusals::put_of_turns(&mut page, word, MANY_TURNS);
     files::tell(&page, held);
     REFUSED
 }
@@ -151,22 +146,24 @@ pub fn start_values(image: &[u8]) -> [i32; 64] {
     state.variables
 }
 
-// Tells of a file what a line says.
-pub fn tell_of(path: &[u8], line: Line) -> u8 {
+// Tells of a file what a line says, after one was written or none.
+pub fn tell_of(path: &[u8], line: Line, written: &[u8]) -> u8 {
     let mut page = writing::page();
-    let mut held = telling::name(&mut page, 0, path);
-    held = telling::part(Line::empty(), words::COLON).onto(&mut page, held);
-    held = line.onto(&mut page, held);
-    done_with(path, &page, held)
+    let held = refusals::put_behind(&mut page, 0, path, line);
+    done_with(written, &page, held)
 }
 
-// Tells what an image holds: its bytes, cells, labels and variables.
-pub fn tell_image(path: &[u8], image: &[u8]) -> u8 {
-    tell_of(path, counts(image))
+// Writes a file, and tells of it what a line says.
+pub fn keep(path: &[u8], bytes: &[u8], line: Line) -> u8 {
+    if !outputs::write(path, bytes) {
+        return TROUBLE;
+    }
+    tell_of(path, line, path)
 }
 
-fn counts(image: &[u8]) -> Line {
-    let mut line = Line::empty().number(image.len() as u64);
+// What an image holds: its bytes, cells, labels and variables.
+pub fn counts(image: &[u8]) -> Line {
+    let mut line = telling::part_number(Line::empty(), words::COLON, image.len() as u64);
     line = telling::part_number(line, words::CELLS, image::cell_count(image) as u64);
     line = telling::part_number(line, words::LABELS, image::label_count(image) as u64);
     line = telling::part_number(line, words::VARIABLES, image::variable_count(image) as u64);
@@ -190,8 +187,28 @@ fn tell_end(to: &[u8], page: &mut Page, before: usize, image: &[u8], ran: Ran) -
     done_with(to, page, held)
 }
 
-// Tells a run turn by turn, page by page, and how it ended.
-pub fn tell_turns(
+// A page of a run from a mark on: its turns; or only its records, by their numbers as turns, where no places are given.
+fn put_some(
+    page: &mut Page,
+    mark: Mark,
+    text: &[u8],
+    image: &[u8],
+    events: &[u8],
+    records: &[u8],
+    visits: &[u8],
+    turns: usize,
+) -> Mark {
+    if visits.len() != 0 {
+        return trace::put(page, mark, text, image, events, records, visits, turns);
+    }
+    let mut told = trace::put_records(page, mark.turn, image, records);
+    told.turn = told.record;
+    told
+}
+
+// Tells a run page by page, and how it ended. Its records may be kept in a file.
+pub fn tell_run(
+    to: &[u8],
     text: &[u8],
     image: &[u8],
     events: &[u8],
@@ -203,30 +220,14 @@ pub fn tell_turns(
     let mut page = writing::page();
     let mut mark = trace::begun(&mut page);
     for _ in 0..MOST_PAGES {
-        mark = trace::put(&mut page, mark, text, image, events, records, visits, turns);
+        mark = put_some(&mut page, mark, text, image, events, records, visits, turns);
         if turns <= mark.turn {
-            break;
-        }
-        if done(&page, mark.held) != ACCEPTED {
-            return TROUBLE;
-        }
-        mark.held = 0;
-    }
-    tell_end(&text[..0], &mut page, mark.held, image, ran)
-}
-
-// Tells what a run recorded, page by page, and how it ended; the records may be kept in a file.
-pub fn tell_records(to: &[u8], image: &[u8], records: &[u8], ran: Ran) -> u8 {
-    let mut page = writing::page();
-    let mut mark = trace::put_records(&mut page, 0, image, records);
-    for _ in 0..MOST_PAGES {
-        if ran.records <= mark.record {
             break;
         }
         if done_with(to, &page, mark.held) != ACCEPTED {
             return TROUBLE;
         }
-        mark = trace::put_records(&mut page, mark.record, image, records);
+        mark.held = 0;
     }
     tell_end(to, &mut page, mark.held, image, ran)
 }

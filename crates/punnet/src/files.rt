@@ -36,29 +36,19 @@ pub fn trouble(path: &[u8]) {
 
 // Tells that standard output could not be written.
 pub fn trouble_with_output() {
-    let mut page = writing::page();
-    let mut line = telling::part(Line::empty(), words::PUNNET);
-    line = telling::part(line, words::STANDARD_OUTPUT);
-    let held = line.onto(&mut page, 0);
-    os::fail(writing::held_on(&page, held));
-}
-
-fn of_standard_input() -> Seen {
-    let mut name = io::buffer();
-    let length = paths::put_line(
-        &mut name,
-        0,
-        telling::part(Line::empty(), words::STANDARD_INPUT),
-    );
-    seen::look_at(paths::of_name(&name, length))
+    let line = telling::part(Line::empty(), words::STANDARD_OUTPUT);
+    let bytes = line.bytes;
+    trouble(writing::held_in(&bytes, line.held));
 }
 
 // What the system says of a file that is read; `-` is standard input.
 pub fn look(path: &[u8]) -> Seen {
-    if paths::is_dash(path) {
-        return of_standard_input();
+    if !paths::is_dash(path) {
+        return seen::look_at(path);
     }
-    seen::look_at(path)
+    let line = telling::part(Line::empty(), words::STANDARD_INPUT);
+    let bytes = line.bytes;
+    seen::look_at(writing::held_in(&bytes, line.held))
 }
 
 // Opens a file for reading.

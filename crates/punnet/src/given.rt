@@ -1,8 +1,6 @@
 // What a command is given besides its text or image: events and turns.
 use crate::files;
 use crate::paths;
-use crate::seen;
-use crate::seen::Seen;
 use events::Event;
 use telling::refusals;
 
@@ -25,16 +23,15 @@ struct Refusal {
 }
 
 // The most turns that a run may take.
-const MOST_TURNS: u64 = 4096;
+pub const MOST_TURNS: u64 = 4096;
 
-// The longest file of events that is read, and the room for events as bytes: for one more than a script may have.
+// The longest file of events that is read.
 const ROOM: usize = 262144;
 
 type Room = [u8; ROOM];
 
-pub const EVENTS: usize = 49164;
-
-pub type Events = [u8; EVENTS];
+// Room for more events than a run takes, and for any other file.
+pub type Buffer = [u8; 65536];
 
 const LONG_FILE: u32 = 8;
 
@@ -48,13 +45,9 @@ const BAD_SCRIPT: u8 = 32;
 
 const BAD_EVENT: u8 = 33;
 
-pub fn no_bytes() -> Events {
-    [0; EVENTS]
-}
-
-// The first bytes of the events.
-pub fn of_events<'a>(bytes: &'a Events, length: usize) -> &'a [u8] {
-    parts::front(bytes, length)
+// The first bytes of a buffer.
+pub fn of_buffer<'a>(buffer: &'a Buffer, length: usize) -> &'a [u8] {
+    parts::front(buffer, length)
 }
 
 // The number of turns that a word gives; the most where there is no word. Digits without end are more than any run may take.
@@ -83,21 +76,13 @@ fn no_events(status: u8) -> Given {
     Given { length: 0, status }
 }
 
-// What the system says of the file of events; there is none where none is meant.
-pub fn look(path: &[u8]) -> Seen {
-    if is_no_file(path) {
-        return seen::nothing();
-    }
-    seen::look_at(path)
-}
-
 // No events are meant by no name, nor by `-`.
 fn is_no_file(path: &[u8]) -> bool {
     (path.len() == 0) | paths::is_dash(path)
 }
 
 // Reads the events that a run is given.
-pub fn events(path: &[u8], bytes: &mut Events) -> Given {
+pub fn events(path: &[u8], bytes: &mut Buffer) -> Given {
     if is_no_file(path) {
         return no_events(ACCEPTED);
     }
@@ -105,7 +90,7 @@ pub fn events(path: &[u8], bytes: &mut Events) -> Given {
 }
 
 // Reads a file of events, a script or bytes. What is wrong with it is told.
-pub fn script(path: &[u8], bytes: &mut Events) -> Given {
+pub fn script(path: &[u8], bytes: &mut Buffer) -> Given {
     let mut file = room();
     let contents = files::read(path, &mut file);
     if contents.failed {
@@ -126,16 +111,16 @@ fn of_room<'a>(room: &'a Room, length: usize) -> &'a [u8] {
     parts::front(room, length)
 }
 
-fn of_file(path: &[u8], file: &[u8], bytes: &mut Events) -> Given {
+fn of_file(path: &[u8], file: &[u8], bytes: &mut Buffer) -> Given {
     if scripts::is_bytes(file) {
         let length = copy(file, bytes);
-        return accepted(path, file, false, of_events(bytes, length));
+        return accepted(path, file, false, of_buffer(bytes, length));
     }
     let script = scripts::translate(file, bytes);
     if script.fault != scripts::NO_FAULT {
         return refuse_line(path, file, script.line, script.fault);
     }
-    accepted(path, file, true, of_events(bytes, script.length))
+    accepted(path, file, true, of_buffer(bytes, script.length))
 }
 
 // Tells a line that says no event.
@@ -160,10 +145,10 @@ fn accepted(path: &[u8], file: &[u8], is_script: bool, events: &[u8]) -> Given {
 }
 
 // Copies bytes, as many as there is room for.
-fn copy(from: &[u8], bytes: &mut Events) -> usize {
+fn copy(from: &[u8], bytes: &mut Buffer) -> usize {
     let mut i: usize = 0;
     while i < from.len() {
-        if EVENTS <= i {
+        if 65536 <= i {
             return i;
         }
         bytes[i] = from[i];

@@ -10,8 +10,14 @@ mod scripted;
 mod seen;
 mod texts;
 
+use arguments::FORCE;
+use arguments::LONG_HELP;
+use arguments::NO_OPTION;
+use arguments::SHORT_HELP;
 use commands::ACCEPTED;
 use commands::REFUSED;
+use commands::VERSION;
+use commands::WORDS;
 
 // Where the status goes, as one digit: a descriptor that no file is opened on.
 const STATUS: i32 = 9;
@@ -27,11 +33,7 @@ const RUN: u32 = 4;
 
 const EVENTS: u32 = 5;
 
-const WORDS: u32 = 6;
-
-const VERSION: u32 = 10;
-
-const FORCE: u32 = 11;
+const HELP: u32 = 7;
 
 // What is wrong with the arguments of the last ones.
 const WANTS_NOTHING: u32 = 19;
@@ -86,25 +88,23 @@ fn work(command: u32, force: bool, a: &[u8], b: &[u8], c: &[u8], d: &[u8]) -> u8
         CHECK => images::check_command(a),
         RUN => images::run_command(a, b, c, d, force),
         EVENTS => scripted::events_command(a, b, force),
-        WORDS => commands::all_words(),
-        VERSION => commands::version(),
-        _ => commands::help(a),
+        _ => commands::show(command, a),
     }
 }
 
-// Reads the arguments of a command, but for its `-f`.
-fn with_arguments(command: u32, force: usize) -> u8 {
+// Reads the arguments of a command, the first of them behind its `-f`.
+fn with_arguments(command: u32, force: bool) -> u8 {
     let mut first = io::buffer();
     let mut second = io::buffer();
     let mut third = io::buffer();
     let mut fourth = io::buffer();
-    let a = arguments::without_force(2, force, &mut first);
-    let b = arguments::without_force(3, force, &mut second);
-    let c = arguments::without_force(4, force, &mut third);
-    let d = arguments::without_force(5, force, &mut fourth);
+    let a = arguments::argument_behind(force, 2, &mut first);
+    let b = arguments::argument_behind(force, 3, &mut second);
+    let c = arguments::argument_behind(force, 4, &mut third);
+    let d = arguments::argument_behind(force, 5, &mut fourth);
     work(
         command,
-        force != 0,
+        force,
         paths::of_name(&first, a),
         paths::of_name(&second, b),
         paths::of_name(&third, c),
@@ -112,14 +112,33 @@ fn with_arguments(command: u32, force: usize) -> u8 {
     )
 }
 
-// Tells which argument is wrong; an empty one by the command.
-fn wrong(name: &[u8], at: usize, fault: u32) -> u8 {
-    let mut word = io::buffer();
-    let length = arguments::argument(at, &mut word);
-    if length == 0 {
-        return commands::usage(name, fault);
+// A command with so many arguments, its `-f` not counted.
+fn counted(command: u32, name: &[u8], count: usize, force: bool) -> u8 {
+    if !takes(command, count) {
+        return commands::usage(name, usage_of(command));
     }
-    commands::usage(paths::of_name(&word, length), fault)
+    with_arguments(command, force)
+}
+
+// A command with an option behind it, if that is one.
+fn with_option(command: u32, name: &[u8], count: usize, option: u32) -> u8 {
+    if (option == SHORT_HELP) | (option == LONG_HELP) {
+        return commands::show(HELP, name);
+    }
+    if option == NO_OPTION {
+        return commands::usage(name, NO_OPTION);
+    }
+    if (option == FORCE) & is_writing(command) {
+        return counted(command, name, one_less(count), true);
+    }
+    counted(command, name, count, false)
+}
+
+fn one_less(count: usize) -> usize {
+    if count == 0 {
+        return count;
+    }
+    count - 1
 }
 
 fn command(name: &[u8], count: usize) -> u8 {
@@ -127,31 +146,13 @@ fn command(name: &[u8], count: usize) -> u8 {
     if (command == 0) | (command == FORCE) {
         return commands::usage(name, commands::NO_COMMAND);
     }
-    let asked = arguments::read(count);
-    if asked.helps {
-        return commands::help(name);
-    }
-    if asked.fault != 0 {
-        return wrong(name, asked.wrong, asked.fault);
-    }
-    let force = asked.force;
-    if (force != 0) & !is_writing(command) {
-        return wrong(name, force, arguments::NO_OPTION);
-    }
-    if !takes(command, arguments::counted(count, force)) {
-        return commands::usage(name, usage_of(command));
-    }
-    with_arguments(command, force)
+    with_option(command, name, count, arguments::option())
 }
 
 fn start() -> u8 {
-    let count = os::arg_count();
-    if count < 2 {
-        return commands::tell_usage();
-    }
     let mut word = io::buffer();
     let length = arguments::argument(1, &mut word);
-    command(paths::of_name(&word, length), count)
+    command(paths::of_name(&word, length), os::arg_count())
 }
 
 fn main() {

@@ -1,15 +1,14 @@
 // Files that are written, whole or not at all. What must not be replaced is tested before anything is read: a link is followed and stays,
 // only a plain file is replaced, and only one of the kind that is written, unless that is asked for.
+use crate::arguments::NO_OPTION;
 use crate::files;
 use crate::given;
 use crate::paths;
-use crate::paths::Name;
 use crate::seen;
 use crate::seen::Seen;
-use events::Event;
-use events::Record;
 use libc::STDOUT_FILENO;
 use writing::Line;
+use writing::Page;
 
 // A file that is being written: the length of its name, and its descriptor.
 struct Part {
@@ -37,32 +36,6 @@ const MOST_PARTS: u16 = 65535;
 // The longest name of a file, less the most that is put behind it.
 const LONGEST_BASE: usize = 245;
 
-// A record as a run writes it, in a turn after that of the record before.
-fn is_record(bytes: &[u8], k: usize) -> bool {
-    if Event::MOST < k {
-        return false;
-    }
-    let record = events::script::event_at(bytes, k);
-    if k == 0 {
-        return has_form(record);
-    }
-    let before = events::script::event_at(bytes, k - 1);
-    (before.turn < record.turn) & has_form(record)
-}
-
-fn has_form(record: Event) -> bool {
-    (record.zeros == 0) & (1 <= record.kind) & (record.kind <= Record::FAILED)
-}
-
-fn are_records(bytes: &[u8]) -> bool {
-    for k in 0..events::script::event_count(bytes) {
-        if !is_record(bytes, k) {
-            return false;
-        }
-    }
-    !events::script::is_bad_script(bytes)
-}
-
 // Whether bytes are of a kind, or there are none.
 fn are_of_kind(bytes: &[u8], kind: u32) -> bool {
     if bytes.len() == 0 {
@@ -70,7 +43,7 @@ fn are_of_kind(bytes: &[u8], kind: u32) -> bool {
     }
     match kind {
         IMAGE => bench::check(bytes).number == 0,
-        RECORDS => are_records(bytes),
+        RECORDS => telling::given::are_entries(bytes),
         _ => given::are_events(bytes),
     }
 }
@@ -100,11 +73,11 @@ fn may_write(path: &[u8]) -> bool {
 }
 
 // What speaks against replacing what is there: the words for it, or 0.
-fn objection(path: &[u8], kind: u32, force: bool, there: Seen, is_source: bool) -> u32 {
-    if is_source {
+fn objection(path: &[u8], kind: u32, force: bool, is_plain: bool, is_read: bool) -> u32 {
+    if is_read {
         return SOURCE;
     }
-    if !there.plain {
+    if !is_plain {
         return NOT_PLAIN;
     }
     if force {
@@ -116,17 +89,26 @@ fn objection(path: &[u8], kind: u32, force: bool, there: Seen, is_source: bool) 
     kind
 }
 
-// Whether there is nothing yet; another reason why nothing is seen is told.
+// Whether there is nothing yet; another reason why nothing is seen is told, and so is a name that was meant as an option.
 fn is_new(path: &[u8]) -> bool {
-    if os::errno() == libc::ENOENT {
-        return true;
+    if os::errno() != libc::ENOENT {
+        files::trouble(path);
+        return false;
     }
-    files::trouble(path);
-    false
+    if paths::is_dashed(path) {
+        files::complain(path, NO_OPTION);
+        return false;
+    }
+    true
+}
+
+// Whether a file is one of the two at most that are read.
+fn is_read(there: Seen, first: &[u8], second: &[u8]) -> bool {
+    seen::same(there, files::look(first)) | seen::same(there, files::look(second))
 }
 
 // Whether a file may be written, beside the two at most that are read; else it is told. No name means none.
-pub fn may_replace(path: &[u8], kind: u32, force: bool, first: Seen, second: Seen) -> bool {
+pub fn may_replace(path: &[u8], kind: u32, force: bool, first: &[u8], second: &[u8]) -> bool {
     if (path.len() == 0) | paths::is_dash(path) {
         return true;
     }
@@ -134,8 +116,13 @@ pub fn may_replace(path: &[u8], kind: u32, force: bool, first: Seen, second: See
     if !there.found {
         return is_new(path);
     }
-    let is_source = seen::same(there, first) | seen::same(there, second);
-    let number = objection(path, kind, force, there, is_source);
+    let number = objection(
+        path,
+        kind,
+        force,
+        there.plain,
+        is_read(there, first, second),
+    );
     if number == 0 {
         return may_write(path);
     }
@@ -144,22 +131,30 @@ pub fn may_replace(path: &[u8], kind: u32, force: bool, first: Seen, second: See
 }
 
 // The name of a file that is being written: `.part` and a number behind the name that is meant, which is cut where it is too long for that.
-fn put_part(part: &mut Name, path: &[u8], k: u16) -> usize {
-    let length = paths::put(part, 0, paths::cut(path, LONGEST_BASE));
-    let ending = telling::part_number(Line::empty(), words::UNFINISHED, k as u64);
-    paths::put_line(part, length, ending)
+fn put_part(page: &mut Page, path: &[u8], k: u16) -> usize {
+    let folder = paths::folder_length(path);
+    let held = writing::put(page, 0, parts::front(path, folder));
+    let base = writing::put(page, held, cut(parts::back(path, folder)));
+    telling::part_number(Line::empty(), words::UNFINISHED, k as u64).onto(page, base)
+}
+
+fn cut<'a>(base: &'a [u8]) -> &'a [u8] {
+    if base.len() <= LONGEST_BASE {
+        return base;
+    }
+    parts::front(base, LONGEST_BASE)
 }
 
 // Makes a new file beside the one that is meant. The first of its names that is taken is told.
-fn make_part(path: &[u8], part: &mut Name) -> Part {
+fn make_part(path: &[u8], page: &mut Page) -> Part {
     for k in 0..MOST_PARTS {
-        let length = put_part(part, path, k);
-        let file = os::create(paths::of_name(part, length));
+        let length = put_part(page, path, k);
+        let file = os::create(writing::held_on(page, length));
         if (0 <= file) | (os::errno() != libc::EEXIST) {
             return Part { length, file };
         }
         if k == 0 {
-            files::complain(paths::of_name(part, length), LEFT_OVER);
+            files::complain(writing::held_on(page, length), LEFT_OVER);
         }
     }
     Part {
@@ -205,13 +200,13 @@ fn replace(file: i32, part: &[u8], path: &[u8], bytes: &[u8]) -> bool {
 
 // Writes a file whole: under another name in the same folder first, which then takes the place of what was there.
 fn write_whole(path: &[u8], bytes: &[u8]) -> bool {
-    let mut name = io::buffer();
-    let part = make_part(path, &mut name);
+    let mut page = writing::page();
+    let part = make_part(path, &mut page);
     if part.file < 0 {
         files::trouble(path);
         return false;
     }
-    replace(part.file, paths::of_name(&name, part.length), path, bytes)
+    replace(part.file, writing::held_on(&page, part.length), path, bytes)
 }
 
 fn write_standard(bytes: &[u8]) -> bool {
@@ -230,7 +225,7 @@ pub fn write(path: &[u8], bytes: &[u8]) -> bool {
     if paths::is_dash(path) {
         return write_standard(bytes);
     }
-    let mut name = io::buffer();
-    let length = paths::behind_links(path, &mut name);
-    write_whole(paths::of_name(&name, length), bytes)
+    let mut page = writing::page();
+    let length = paths::put_behind_links(&mut page, path);
+    write_whole(writing::held_on(&page, length), bytes)
 }

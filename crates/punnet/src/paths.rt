@@ -1,7 +1,7 @@
-// Names of files: arrays with a length, as the system takes them.
+// Names of files, as the system takes them.
 ghost use Rattle.libc.specs.Io.{Ended};
 use libc::PATH_MAX;
-use writing::Line;
+use writing::Page;
 
 // The room for a name. One that fills it is too long, and names no file.
 pub type Name = [u8; PATH_MAX];
@@ -18,32 +18,18 @@ pub fn of_name<'a>(name: &'a Name, length: usize) -> &'a [u8] {
 
 // A name that means standard input or output.
 pub fn is_dash(path: &[u8]) -> bool {
-    if path.len() == 0 {
+    if path.len() != 1 {
         return false;
     }
-    (path.len() == 1) & (path[0] == b'-')
+    path[0] == b'-'
 }
 
-fn put_byte(name: &mut Name, at: usize, b: u8) -> usize {
-    if at < PATH_MAX {
-        name[at] = b;
-        return at + 1;
+// A name that begins as an option does.
+pub fn is_dashed(path: &[u8]) -> bool {
+    if path.len() < 2 {
+        return false;
     }
-    at
-}
-
-// Puts bytes behind the first so many of a name, as many as there is room for, and answers how many it has then.
-pub fn put(name: &mut Name, before: usize, bytes: &[u8]) -> usize {
-    let mut at = before;
-    for i in 0..bytes.len() {
-        at = put_byte(name, at, bytes[i]);
-    }
-    at
-}
-
-pub fn put_line(name: &mut Name, length: usize, line: Line) -> usize {
-    let bytes = line.bytes;
-    put(name, length, writing::held_in(&bytes, line.held))
+    path[0] == b'-'
 }
 
 // How many bytes of a path lead to its folder, the last slash among them.
@@ -58,23 +44,6 @@ pub fn folder_length(path: &[u8]) -> usize {
         }
     }
     folder
-}
-
-// The path, its last name cut to so many bytes at most.
-pub fn cut<'a>(path: &'a [u8], longest: usize) -> &'a [u8] {
-    let base = parts::back(path, folder_length(path));
-    if base.len() <= longest {
-        return path;
-    }
-    parts::front(path, without(path.len(), base.len() - longest))
-}
-
-// So many less, as far as there are so many.
-fn without(count: usize, less: usize) -> usize {
-    if count < less {
-        return 0;
-    }
-    count - less
 }
 
 // As much of a path as leaves room for a 0, and then zeros.
@@ -102,27 +71,36 @@ fn read_link(path: &[u8], target: &mut Name) -> usize {
 }
 
 // The path with its last name replaced by what a link there says.
-fn follow(name: &mut Name, folder: usize, target: &[u8]) -> usize {
+fn put_target(page: &mut Page, folder: usize, target: &[u8]) -> usize {
     if target.len() == 0 {
         return folder;
     }
     if target[0] == b'/' {
-        return put(name, 0, target);
+        return writing::put(page, 0, target);
     }
-    put(name, folder, target)
+    writing::put(page, folder, target)
 }
 
-// Puts the name behind all links into `name`, and answers its length; 0 where they lead on and on.
-pub fn behind_links(path: &[u8], name: &mut Name) -> usize {
-    let mut length = put(name, 0, path);
+// Follows one link: how long the path on the page is then; 0 where it is no link.
+fn follow(page: &mut Page, length: usize) -> usize {
+    let mut target = io::buffer();
+    let got = read_link(writing::held_on(page, length), &mut target);
+    if got == 0 {
+        return 0;
+    }
+    let folder = folder_length(writing::held_on(page, length));
+    put_target(page, folder, of_name(&target, got))
+}
+
+// Puts the path behind all links on a page, and answers its length.
+pub fn put_behind_links(page: &mut Page, path: &[u8]) -> usize {
+    let mut length = writing::put(page, 0, path);
     for _ in 0..MOST_LINKS {
-        let mut target = io::buffer();
-        let got = read_link(of_name(name, length), &mut target);
-        if got == 0 {
+        let next = follow(page, length);
+        if next == 0 {
             return length;
         }
-        let folder = folder_length(of_name(name, length));
-        length = follow(name, folder, of_name(&target, got));
+        length = next;
     }
-    0
+    length
 }

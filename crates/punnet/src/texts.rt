@@ -1,4 +1,4 @@
-// The commands on texts: try and translate. A text is read into room for more bytes than one may have.
+// The commands on texts: try and translate.
 use crate::commands;
 use crate::commands::ACCEPTED;
 use crate::commands::REFUSED;
@@ -7,51 +7,18 @@ use crate::files;
 use crate::given;
 use crate::images;
 use crate::outputs;
-use crate::seen;
 use bench::Ran;
 use telling::refusals;
 use tried::Tried;
-
-type Text = [u8; 16400];
-
-// Two bytes for each turn of a run.
-type Visits = [u8; 8192];
-
-// A byte for each line of a text.
-type Faults = [u8; 16384];
-
-fn no_text() -> Text {
-    [0; 16400]
-}
-
-fn no_visits() -> Visits {
-    [0; 8192]
-}
-
-fn no_faults() -> Faults {
-    [0; 16384]
-}
-
-fn of_text<'a>(room: &'a Text, length: usize) -> &'a [u8] {
-    parts::front(room, length)
-}
-
-fn of_visits<'a>(room: &'a Visits, turns: usize) -> &'a [u8] {
-    parts::front(room, 8192)
-}
-
-fn of_faults<'a>(room: &'a Faults, lines: usize) -> &'a [u8] {
-    parts::front(room, lines)
-}
 
 // A refusal of a text: of the whole, or of its lines.
 fn refuse(path: &[u8], text: &[u8], line: usize, number: u8) -> u8 {
     if line == 0 {
         return commands::refuse(path, number);
     }
-    let mut room = no_faults();
+    let mut room = io::large_buffer();
     let lines = names::line_faults(text, &mut room);
-    refuse_lines(path, text, of_faults(&room, lines))
+    refuse_lines(path, text, given::of_buffer(&room, lines))
 }
 
 fn refuse_lines(path: &[u8], text: &[u8], faults: &[u8]) -> u8 {
@@ -80,37 +47,39 @@ fn try_turns(path: &[u8], events: &[u8], word: &[u8]) -> u8 {
     if !turns.is_number {
         return commands::usage(word, commands::NO_TURNS);
     }
-    try_file(path, events, word, turns.count)
+    if given::MOST_TURNS < turns.count {
+        return commands::refuse_turns(word);
+    }
+    try_file(path, events, turns.count)
 }
 
-fn try_file(path: &[u8], events: &[u8], word: &[u8], turns: u64) -> u8 {
-    let mut text = no_text();
+fn try_file(path: &[u8], events: &[u8], turns: u64) -> u8 {
+    let mut text = io::large_buffer();
     let contents = files::read(path, &mut text);
     if contents.failed {
         return TROUBLE;
     }
-    try_script(path, of_text(&text, contents.length), events, word, turns)
-}
-
-fn try_script(path: &[u8], text: &[u8], events: &[u8], word: &[u8], turns: u64) -> u8 {
-    let mut bytes = given::no_bytes();
-    let read = given::events(events, &mut bytes);
-    if read.status != ACCEPTED {
-        return read.status;
-    }
-    try_with(
+    try_script(
         path,
-        text,
-        given::of_events(&bytes, read.length),
-        word,
+        given::of_buffer(&text, contents.length),
+        events,
         turns,
     )
 }
 
+fn try_script(path: &[u8], text: &[u8], events: &[u8], turns: u64) -> u8 {
+    let mut bytes = io::large_buffer();
+    let read = given::events(events, &mut bytes);
+    if read.status != ACCEPTED {
+        return read.status;
+    }
+    try_with(path, text, given::of_buffer(&bytes, read.length), turns)
+}
+
 // Tries a text on events, and tells how it went.
-fn try_with(path: &[u8], text: &[u8], events: &[u8], word: &[u8], turns: u64) -> u8 {
-    let mut image = images::no_image();
-    let mut records = images::no_records();
+fn try_with(path: &[u8], text: &[u8], events: &[u8], turns: u64) -> u8 {
+    let mut image = io::large_buffer();
+    let mut records = io::large_buffer();
     let tried = tried::try_text(text, &mut image, events, turns, &mut records);
     let translated = tried.translated;
     let ran = tried.ran;
@@ -118,10 +87,9 @@ fn try_with(path: &[u8], text: &[u8], events: &[u8], word: &[u8], turns: u64) ->
         path,
         text,
         events,
-        word,
         turns,
         tried,
-        images::of_image(&image, translated.length),
+        given::of_buffer(&image, translated.length),
         images::of_records(&records, ran.records),
     )
 }
@@ -131,7 +99,6 @@ fn outcome(
     path: &[u8],
     text: &[u8],
     events: &[u8],
-    word: &[u8],
     turns: u64,
     tried: Tried,
     image: &[u8],
@@ -143,22 +110,23 @@ fn outcome(
     }
     let ran = tried.ran;
     if ran.number != 0 {
-        return commands::refuse_run(path, image, word, ran.number);
+        return commands::refuse(path, ran.number);
     }
     tell(text, image, events, records, turns, ran)
 }
 
 // Tells a run turn by turn, and how it ended.
 fn tell(text: &[u8], image: &[u8], events: &[u8], records: &[u8], turns: u64, ran: Ran) -> u8 {
-    let mut room = images::no_image();
-    let mut visits = no_visits();
+    let mut room = io::large_buffer();
+    let mut visits = io::large_buffer();
     let taken = tried::visit_text(text, &mut room, events, turns, &mut visits);
-    commands::tell_turns(
+    commands::tell_run(
+        &text[..0],
         text,
         image,
         events,
         records,
-        of_visits(&visits, taken),
+        given::of_buffer(&visits, 65536),
         taken,
         ran,
     )
@@ -166,30 +134,23 @@ fn tell(text: &[u8], image: &[u8], events: &[u8], records: &[u8], turns: u64, ra
 
 // translate [-f] TEXT IMAGE
 pub fn translate_command(path: &[u8], to: &[u8], force: bool) -> u8 {
-    let source = files::look(path);
-    if !outputs::may_replace(to, outputs::IMAGE, force, source, seen::nothing()) {
+    if !outputs::may_replace(to, outputs::IMAGE, force, path, path) {
         return TROUBLE;
     }
-    let mut room = no_text();
+    let mut room = io::large_buffer();
     let contents = files::read(path, &mut room);
     if contents.failed {
         return TROUBLE;
     }
-    translate(path, of_text(&room, contents.length), to)
+    translate(path, given::of_buffer(&room, contents.length), to)
 }
 
 fn translate(path: &[u8], text: &[u8], to: &[u8]) -> u8 {
-    let mut room = images::no_image();
+    let mut room = io::large_buffer();
     let translated = bench::translate(text, &mut room);
     if translated.number != 0 {
         return refuse(path, text, translated.line, translated.number);
     }
-    keep(to, images::of_image(&room, translated.length))
-}
-
-fn keep(to: &[u8], image: &[u8]) -> u8 {
-    if !outputs::write(to, image) {
-        return TROUBLE;
-    }
-    commands::tell_image(to, image)
+    let image = given::of_buffer(&room, translated.length);
+    commands::keep(to, image, commands::counts(image))
 }

@@ -113,7 +113,7 @@ fn may_be_entry(entry: Event) -> bool {
 }
 
 // Such entries alone, in 12 bytes each.
-fn are_entries(bytes: &[u8]) -> bool {
+pub fn are_entries(bytes: &[u8]) -> bool {
     if events::script::is_bad_script(bytes) {
         return false;
     }

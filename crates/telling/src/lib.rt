@@ -1,5 +1,5 @@
 // What the tool says, put into lines: words, and bytes of files as people can read them.
-mod given;
+pub mod given;
 mod hints;
 mod marks;
 pub mod refusals;

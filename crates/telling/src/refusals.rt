@@ -66,7 +66,7 @@ fn hinted(mut line: Line, hint: Hint) -> Line {
 }
 
 // A file's name, and a line behind it, behind what the page holds.
-fn put_behind(page: &mut Page, before: usize, path: &[u8], line: Line) -> usize {
+pub fn put_behind(page: &mut Page, before: usize, path: &[u8], line: Line) -> usize {
     let held = crate::name(page, before, path);
     line.onto(page, held)
 }

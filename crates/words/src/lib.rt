@@ -81,11 +81,11 @@ pub const EVERY_COMMAND: u32 = 0;
 
 // The bytes of the table, the place of the first line for people, the number of lines, and the bytes of the longest line with its end.
 // What is sought most often stands first.
-pub const SIZE: usize = 6912;
+pub const SIZE: usize = 6881;
 
 pub const FIRST_FOR_PEOPLE: usize = 1944;
 
-const LINE_COUNT: usize = 174;
+const LINE_COUNT: usize = 173;
 
 pub const LONGEST: usize = 76;
 
@@ -256,7 +256,6 @@ usage 10: not a plain file, and so not written
 usage 11: holds something else than an image; -f writes over it
 usage 12: holds something else than records; -f writes over it
 usage 13: holds something else than events as bytes; -f writes over it
-usage 14: an argument is empty
 usage 15: no such option; for a file of that name put ./ in front
 usage 16: left from a write that did not end; look at it, then remove it
 usage 17: no command and no number; see punnet help and punnet words

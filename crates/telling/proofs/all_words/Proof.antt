@@ -9,7 +9,7 @@ abbrev Inv-loop : tie.InvT-loop
 Inv-loop page₀ held₀ i₀ page held i = Unit {0}
 
 abbrev μ-loop : tie.MeasureT-loop
-μ-loop page₀ held₀ i₀ page held i = 6912 - i
+μ-loop page₀ held₀ i₀ page held i = 6881 - i
 
 pub all-words-spec : {M : Type 1} → statement M
 all-words-spec =

@@ -9,7 +9,7 @@ abbrev Inv-loop : tie.InvT-loop
 Inv-loop kind word at₀ counter₀ at counter = Unit {0}
 
 abbrev μ-loop : tie.MeasureT-loop
-μ-loop kind word at₀ counter₀ at counter = 174 - counter
+μ-loop kind word at₀ counter₀ at counter = 173 - counter
 
 pub number-for-spec : {M : Type 1} → statement M
 number-for-spec =

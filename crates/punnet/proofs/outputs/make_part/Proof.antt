@@ -6,10 +6,10 @@ use Rattle.punnet.proofs.outputs.make_part.Statement.{statement}
 use Rattle.punnet.proofs.outputs.make_part.Tie as tie
 
 abbrev Inv-loop : tie.InvT-loop
-Inv-loop path part₀ k₀ part k = Unit {0}
+Inv-loop path page₀ k₀ page k = Unit {0}
 
 abbrev μ-loop : tie.MeasureT-loop
-μ-loop path part₀ k₀ part k = 65535 - k
+μ-loop path page₀ k₀ page k = 65535 - k
 
 pub make-part-spec : {M : Type 1} → statement M
 make-part-spec =
