@@ -9,7 +9,6 @@ use crate::images;
 use crate::outputs;
 use bench::Ran;
 use telling::refusals;
-use tried::Tried;
 
 // A refusal of a text: of the whole, or of its lines.
 fn refuse(path: &[u8], text: &[u8], line: usize, number: u8) -> u8 {
@@ -76,43 +75,24 @@ fn try_script(path: &[u8], text: &[u8], events: &[u8], turns: u64) -> u8 {
     try_with(path, text, given::of_buffer(&bytes, read.length), turns)
 }
 
-// Tries a text on events, and tells how it went.
+// Tries a text on events, and tells how it went. Events and turns that a run refuses are told before.
 fn try_with(path: &[u8], text: &[u8], events: &[u8], turns: u64) -> u8 {
     let mut image = io::large_buffer();
     let mut records = io::large_buffer();
     let tried = tried::try_text(text, &mut image, events, turns, &mut records);
     let translated = tried.translated;
-    let ran = tried.ran;
-    outcome(
-        path,
-        text,
-        events,
-        turns,
-        tried,
-        given::of_buffer(&image, translated.length),
-        images::of_records(&records, ran.records),
-    )
-}
-
-// A refusal of the text or of the run; else the run is told.
-fn outcome(
-    path: &[u8],
-    text: &[u8],
-    events: &[u8],
-    turns: u64,
-    tried: Tried,
-    image: &[u8],
-    records: &[u8],
-) -> u8 {
-    let translated = tried.translated;
     if translated.number != 0 {
         return refuse(path, text, translated.line, translated.number);
     }
     let ran = tried.ran;
-    if ran.number != 0 {
-        return commands::refuse(path, ran.number);
-    }
-    tell(text, image, events, records, turns, ran)
+    tell(
+        text,
+        given::of_buffer(&image, translated.length),
+        events,
+        images::of_records(&records, ran.records),
+        turns,
+        ran,
+    )
 }
 
 // Tells a run turn by turn, and how it ended.
