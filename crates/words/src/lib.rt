@@ -271,7 +271,8 @@ hint 51: the file is empty
 hint 52: edition
 ";
 
-const USES: [u8; USE_SIZE] = *b"script 1: no event; TURN arrived, TURN input N VALUE or TURN position VALUE
+const USES: [u8; USE_SIZE] =
+    *b"script 1: no event; TURN arrived, TURN input N VALUE or TURN position VALUE
 script 2: a number that does not fit in an event
 usage 1: wants TEXT [EVENTS] [TURNS]
 usage 2: wants [-f] TEXT IMAGE
@@ -295,7 +296,8 @@ usage 19: wants nothing
 usage 20: wants [COMMAND or NUMBER]
 ";
 
-const HELP_TEXT: [u8; HELP_SIZE] = *b"punnet: MCode programs tried on the bench before a motor sees them
+const HELP_TEXT: [u8; HELP_SIZE] =
+    *b"punnet: MCode programs tried on the bench before a motor sees them
 
   punnet try TEXT [EVENTS] [TURNS]
       translate a text, run it, and tell what happened turn by turn
