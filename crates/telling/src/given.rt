@@ -1,6 +1,6 @@
 // What is wrong with an event, and what was given in place of an image.
+use crate::Hint;
 use crate::hints;
-use crate::hints::Hint;
 use crate::marks::NOTHING;
 use crate::trace::entry;
 use events::Event;

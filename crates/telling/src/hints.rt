@@ -1,4 +1,5 @@
 // What is wrong on a line of a text, as far as can be told, and where.
+use crate::Hint;
 use crate::marks;
 use crate::marks::NOTHING;
 use crate::runs;
@@ -7,14 +8,6 @@ use program::names::is_digit;
 use program::names::is_reserved;
 use program::names::is_user_name;
 use reading::Reading;
-
-// The column of what is wrong, from 1; the number of its words, 0 where there are none; and the key of the name that they speak of, or the
-// edition.
-pub struct Hint {
-    pub column: usize,
-    pub number: u32,
-    pub name: u16,
-}
 
 // The refusals of a line that point at more than its beginning; those of a line by itself are known to its reading.
 const REPEATED: u8 = 6;
@@ -122,13 +115,11 @@ fn is_meant(text: &[u8], run: &[u8], is_apart: bool, refusal: u8) -> bool {
 
 // The place of the first such run; the length of the code where there is none.
 fn first_meant(text: &[u8], code: &[u8], apart: usize, refusal: u8) -> usize {
-    let mut inside = false;
     let mut i: usize = 0;
     while i < code.len() {
-        if !inside & is_meant(text, runs::at(code, i), i == apart, refusal) {
+        if runs::begins(code, i) & is_meant(text, runs::at(code, i), i == apart, refusal) {
             return i;
         }
-        inside = runs::belongs(code[i]);
         i += 1;
     }
     i

@@ -10,6 +10,22 @@ pub mod trace;
 use writing::Line;
 use writing::Page;
 
+// How far a run is told: the next turn, event and record, and what the page holds.
+pub struct Mark {
+    pub turn: usize,
+    pub event: usize,
+    pub record: usize,
+    pub held: usize,
+}
+
+// The column of what is wrong, from 1; the number of its words, 0 where there are none; and the key of the name that they speak of, or the
+// edition.
+pub struct Hint {
+    pub column: usize,
+    pub number: u32,
+    pub name: u16,
+}
+
 // How many values a character of a name has.
 const BYTE: u16 = 256;
 

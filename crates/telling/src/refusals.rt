@@ -1,7 +1,7 @@
 // Refusals and faults, as a compiler tells them: the file, the line and the column, the number with its words, the line itself, and a hint.
+use crate::Hint;
 use crate::given;
 use crate::hints;
-use crate::hints::Hint;
 use writing::Line;
 use writing::Page;
 

@@ -19,8 +19,7 @@ const CL: u32 = TAKES + 6;
 
 pub const OE: u32 = TAKES + 10;
 
-// Whether a byte is a letter or a digit of a run.
-pub fn belongs(b: u8) -> bool {
+fn belongs(b: u8) -> bool {
     is_letter(b) | is_digit(b)
 }
 
@@ -39,6 +38,14 @@ pub fn end(code: &[u8], start: usize) -> usize {
 // The run that begins at a place; empty where there is a sign or a blank.
 pub fn at<'a>(code: &'a [u8], start: usize) -> &'a [u8] {
     parts::between(code, start, end(code, start))
+}
+
+// A run begins at a place, if any stands there: what stands before it belongs to none.
+pub fn begins(code: &[u8], place: usize) -> bool {
+    if place == 0 {
+        return true;
+    }
+    !belongs(parts::byte(code, place - 1))
 }
 
 // The key of a run; 0 where it is too long for a name.

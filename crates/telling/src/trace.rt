@@ -1,17 +1,10 @@
 // A run told turn by turn: the events, the statement with its line, and what it recorded.
+use crate::Mark;
 use crate::state;
 use events::Event;
 use events::Record;
 use writing::Line;
 use writing::Page;
-
-// How far a run is told: the next turn, event and record, and what the page holds.
-pub struct Mark {
-    pub turn: usize,
-    pub event: usize,
-    pub record: usize,
-    pub held: usize,
-}
 
 // The columns: turns, lines and statements, and what stands between two of them.
 const TURN_WIDTH: usize = 9;

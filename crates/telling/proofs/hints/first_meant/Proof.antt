@@ -7,13 +7,13 @@ use Rattle.telling.proofs.hints.first_meant.Statement.{statement}
 use Rattle.telling.proofs.hints.first_meant.Tie as tie
 
 abbrev Inv-loop : tie.InvT-loop
-Inv-loop text code apart refusal inside₀ i₀ inside i = Unit {0}
+Inv-loop text code apart refusal i₀ i = Unit {0}
 
 abbrev μ-loop : tie.MeasureT-loop
-μ-loop text code apart refusal inside₀ i₀ inside i = length code - i
+μ-loop text code apart refusal i₀ i = length code - i
 
 pub first-meant-spec : {M : Type 1} → statement M
 first-meant-spec =
     tie.close
     (tie.spec Inv-loop μ-loop (search needs) (search needs) (search needs) (search needs) (search needs) (search needs) (search needs)
-    (search needs) (search needs) (search needs))
+    (search needs) (search needs))
