@@ -76,18 +76,13 @@ impl Number {
         }
     }
 
-    // The number as the value of an event; 0 where it does not fit.
+    // The number as the value of an event, where it fits into 32 digits.
     pub fn value(self) -> i32 {
+        let size = self.size % WRAP;
         if self.negative {
-            if MOST_BELOW < self.size {
-                return 0;
-            }
-            return numbers::signed(((WRAP - self.size) % WRAP) as u32);
+            return numbers::signed(((WRAP - size) % WRAP) as u32);
         }
-        if MOST_ABOVE < self.size {
-            return 0;
-        }
-        self.size as i32
+        numbers::signed(size as u32)
     }
 
     // The fault of a number that has to be at most this large, or is a value of an event.

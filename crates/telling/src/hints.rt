@@ -7,6 +7,7 @@ use program::Variable;
 use program::names::is_digit;
 use program::names::is_reserved;
 use program::names::is_user_name;
+use program::names::place_in;
 use reading::Reading;
 
 // The refusals of a line that point at more than its beginning; those of a line by itself are known to its reading.
@@ -44,6 +45,9 @@ const READ_ONLY: u32 = 42;
 
 // The longest runs of digits.
 const DIGITS: usize = 10;
+
+// The operators, each in the bytes of a name.
+const OPERATORS: [u8; 14] = *b"+\0-\0*\0/\0&\0|\0^\0";
 
 const ZERO: u16 = b'0' as u16;
 
@@ -143,16 +147,7 @@ fn stored_place(code: &[u8]) -> usize {
 
 // Whether an operator stands at a place.
 fn has_operator(code: &[u8], place: usize) -> bool {
-    match parts::byte(code, place) {
-        b'+' => true,
-        b'-' => true,
-        b'*' => true,
-        b'/' => true,
-        b'&' => true,
-        b'|' => true,
-        b'^' => true,
-        _ => false,
-    }
+    place_in(&OPERATORS, parts::byte(code, place) as u16) != 0
 }
 
 // The place behind a minus that stands at a place, or the place itself.
