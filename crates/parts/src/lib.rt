@@ -78,11 +78,11 @@ pub fn is_blank(b: u8) -> bool {
     (b == b' ') | (b == b'\t')
 }
 
-// The place of the first byte that is no blank, from a place on.
-pub fn past_blanks(line: &[u8], at: usize) -> usize {
+// The place behind blanks, or else behind other bytes, from a place on.
+fn past(line: &[u8], at: usize, blanks: bool) -> usize {
     let mut i = at;
     while i < line.len() {
-        if !is_blank(line[i]) {
+        if is_blank(line[i]) != blanks {
             return i;
         }
         i += 1;
@@ -90,16 +90,14 @@ pub fn past_blanks(line: &[u8], at: usize) -> usize {
     i
 }
 
+// The place of the first byte that is no blank, from a place on.
+pub fn past_blanks(line: &[u8], at: usize) -> usize {
+    past(line, at, true)
+}
+
 // The place of the first blank, from a place on.
 fn past_word(line: &[u8], at: usize) -> usize {
-    let mut i = at;
-    while i < line.len() {
-        if is_blank(line[i]) {
-            return i;
-        }
-        i += 1;
-    }
-    i
+    past(line, at, false)
 }
 
 // A line from its first word on.

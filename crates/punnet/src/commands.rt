@@ -4,10 +4,10 @@ use crate::outputs;
 use crate::paths;
 use bench::Ran;
 use libc::STDOUT_FILENO;
+use telling::Mark;
 use telling::refusals;
 use telling::state;
 use telling::trace;
-use telling::trace::Mark;
 use writing::Line;
 use writing::Page;
 

@@ -32,6 +32,11 @@ pub struct Number {
     pub size: u64,
 }
 
+// The kinds of event with more than two words.
+const INPUT: u32 = Event::INPUT as u32;
+
+const PLACE: u32 = Event::PLACE as u32;
+
 // The longest run of digits that is read as a number.
 const MOST_DIGITS: usize = 10;
 
@@ -63,14 +68,6 @@ pub fn is_bytes(bytes: &[u8]) -> bool {
 }
 
 impl Number {
-    fn zero() -> Number {
-        Number {
-            fault: NO_FAULT,
-            negative: false,
-            size: 0,
-        }
-    }
-
     fn bad(fault: u8) -> Number {
         Number {
             fault,
@@ -79,18 +76,13 @@ impl Number {
         }
     }
 
-    // The number as the value of an event; 0 where it does not fit.
+    // The number as the value of an event, where it fits into 32 digits.
     pub fn value(self) -> i32 {
+        let size = self.size % WRAP;
         if self.negative {
-            if MOST_BELOW < self.size {
-                return 0;
-            }
-            return numbers::signed(((WRAP - self.size) % WRAP) as u32);
+            return numbers::signed(((WRAP - size) % WRAP) as u32);
         }
-        if MOST_ABOVE < self.size {
-            return 0;
-        }
-        self.size as i32
+        numbers::signed(size as u32)
     }
 
     // The fault of a number that has to be at most this large, or is a value of an event.
@@ -178,78 +170,23 @@ fn faulty(fault: u8) -> Said {
     }
 }
 
-// The first fault of three.
-fn first_fault(a: u8, b: u8, c: u8) -> u8 {
-    if a != NO_FAULT {
-        return a;
-    }
-    if b != NO_FAULT {
-        return b;
-    }
-    c
+// A word of a line by its number, from 0; empty where there are fewer.
+fn word<'a>(line: &'a [u8], number: usize) -> &'a [u8] {
+    parts::word_at(line, parts::word_place(line, number))
 }
 
-// An event of these parts, where nothing stands behind them on the line.
-fn event(turn: Number, kind: u8, number: Number, value: Number, after: &[u8]) -> Said {
-    if parts::word(after).len() != 0 {
-        return faulty(BAD_FORM);
-    }
-    let fault = first_fault(
-        turn.fault_over(MOST_TURN),
-        number.fault_over(MOST_NUMBER),
-        value.fault_of_value(),
-    );
-    if fault != NO_FAULT {
-        return faulty(fault);
-    }
-    Said {
-        fault: NO_FAULT,
-        turn: (turn.size % WRAP) as u32,
-        event: Record {
-            kind,
-            number: (number.size % WRAP) as u32,
-            value: value.value(),
-        },
-    }
+// The kind of the event on a line, by its second word; 0 where that names none.
+fn kind_on(line: &[u8]) -> u32 {
+    words::number_for(words::KIND_OF_EVENT, word(line, 1))
 }
 
-// An event of a kind in this turn, with what stands behind the kind on its line.
-fn event_of(turn: Number, kind: u32, rest: &[u8]) -> Said {
-    let first = number_of(parts::word(rest));
-    let last = parts::behind(rest);
-    if kind == (Event::INPUT as u32) {
-        let second = number_of(parts::word(last));
-        return event(turn, Event::INPUT, first, second, parts::behind(last));
+// How many words an event of a kind has.
+fn word_count(kind: u32) -> usize {
+    match kind {
+        INPUT => 4,
+        PLACE => 3,
+        _ => 2,
     }
-    if kind == (Event::PLACE as u32) {
-        return event(turn, Event::PLACE, Number::zero(), first, last);
-    }
-    if kind == (Event::ARRIVAL as u32) {
-        return event(turn, Event::ARRIVAL, Number::zero(), Number::zero(), rest);
-    }
-    faulty(BAD_FORM)
-}
-
-// What a line without its comment says.
-fn say(line: &[u8]) -> Said {
-    let first = parts::word(line);
-    if first.len() == 0 {
-        return faulty(NO_FAULT);
-    }
-    let rest = parts::behind(line);
-    let kind = words::number_for(words::KIND_OF_EVENT, parts::word(rest));
-    event_of(number_of(first), kind, parts::behind(rest))
-}
-
-// Which word of an event of a kind is its value; 0 where it has none.
-fn value_word(kind: u32) -> usize {
-    if kind == (Event::INPUT as u32) {
-        return 3;
-    }
-    if kind == (Event::PLACE as u32) {
-        return 2;
-    }
-    0
 }
 
 // The fault of a word by its number on a line with an event of this kind.
@@ -257,21 +194,77 @@ fn fault_of_word(kind: u32, number: usize, word: &[u8]) -> u8 {
     if number == 0 {
         return number_of(word).fault_over(MOST_TURN);
     }
-    if (number == 1) & (kind != 0) {
+    if (kind == 0) | (word_count(kind) <= number) {
+        return BAD_FORM;
+    }
+    if number == 1 {
         return NO_FAULT;
     }
-    if number == value_word(kind) {
-        return number_of(word).fault_of_value();
-    }
-    if (number == 2) & (kind == (Event::INPUT as u32)) {
+    if (number == 2) & (kind == INPUT) {
         return number_of(word).fault_over(MOST_NUMBER);
     }
-    BAD_FORM
+    number_of(word).fault_of_value()
+}
+
+// The first fault of the words that an event of this kind has; a word more is a fault of the line's form, as no kind is.
+fn fault_on(line: &[u8], kind: u32) -> u8 {
+    let count = word_count(kind);
+    if (kind == 0) | (word(line, count).len() != 0) {
+        return BAD_FORM;
+    }
+    for number in 0..count {
+        let fault = fault_of_word(kind, number, word(line, number));
+        if fault != NO_FAULT {
+            return fault;
+        }
+    }
+    NO_FAULT
+}
+
+// The event of a kind on a line without a fault.
+fn event_on(line: &[u8], kind: u32) -> Record {
+    let third = number_of(word(line, 2));
+    match kind {
+        INPUT => Record {
+            kind: Event::INPUT,
+            number: (third.size % WRAP) as u32,
+            value: number_of(word(line, 3)).value(),
+        },
+        PLACE => Record {
+            kind: Event::PLACE,
+            number: 0,
+            value: third.value(),
+        },
+        _ => Record {
+            kind: Event::ARRIVAL,
+            number: 0,
+            value: 0,
+        },
+    }
+}
+
+// What a line without its comment says.
+fn say(line: &[u8]) -> Said {
+    let first = word(line, 0);
+    if first.len() == 0 {
+        return faulty(NO_FAULT);
+    }
+    let kind = kind_on(line);
+    let fault = fault_on(line, kind);
+    if fault != NO_FAULT {
+        return faulty(fault);
+    }
+    let turn = number_of(first);
+    Said {
+        fault,
+        turn: (turn.size % WRAP) as u32,
+        event: event_on(line, kind),
+    }
 }
 
 // The place of the first word of a line, without its comment, that has this fault; of its first word where none has.
 pub fn place_of_fault(line: &[u8], fault: u8) -> usize {
-    let kind = words::number_for(words::KIND_OF_EVENT, parts::word(parts::behind(line)));
+    let kind = kind_on(line);
     for number in 0..MOST_WORDS + 1 {
         let at = parts::word_place(line, number);
         let word = parts::word_at(line, at);

@@ -1,6 +1,6 @@
 // What is wrong with an event, and what was given in place of an image.
+use crate::Hint;
 use crate::hints;
-use crate::hints::Hint;
 use crate::marks::NOTHING;
 use crate::trace::entry;
 use events::Event;
@@ -59,17 +59,10 @@ fn of_event(event: Event, before: u32) -> u32 {
     NO_KIND
 }
 
-// The turn of the event before one with this number; 0 before the first.
-fn turn_before(events: &[u8], index: usize) -> u32 {
-    if index == 0 {
-        return 0;
-    }
-    entry(events, index - 1).turn
-}
-
-// Why the event with this number is bad.
+// Why the event with this number is bad. The first has none before it, and so is not below itself.
 pub fn fault(events: &[u8], index: usize) -> u32 {
-    of_event(entry(events, index), turn_before(events, index))
+    let before = entry(events, crate::one_less(index));
+    of_event(entry(events, index), before.turn)
 }
 
 // Which word of a script's line is at fault, from 0.
@@ -82,16 +75,10 @@ fn word_at_fault(fault: u32) -> usize {
     }
 }
 
-// Why the event with this number is bad that stands on a line of a script.
-pub fn on_line(line: &[u8], events: &[u8], index: usize) -> Hint {
-    let fault = fault(events, index);
+// Why the event on a line of a script is bad, and where.
+pub fn on_line(line: &[u8], fault: u32) -> Hint {
     let place = parts::word_place(parts::code(line), word_at_fault(fault));
-    hints::at(place, fault)
-}
-
-// Where a line of a script has a fault.
-pub fn in_script(line: &[u8], fault: u8) -> Hint {
-    hints::at(scripts::place_of_fault(parts::code(line), fault), NOTHING)
+    hints::at(place, fault, 0)
 }
 
 // No control characters but those between words and lines.
@@ -128,20 +115,16 @@ pub fn are_entries(bytes: &[u8]) -> bool {
 // What was given in place of an image, with this refusal.
 pub fn instead(file: &[u8], refusal: u8) -> Hint {
     if file.len() == 0 {
-        return hints::at(0, EMPTY);
+        return hints::at(0, EMPTY, 0);
     }
     if is_text(file) {
-        return hints::at(0, TEXT);
+        return hints::at(0, TEXT, 0);
     }
     if are_entries(file) {
-        return hints::at(0, ENTRIES);
+        return hints::at(0, ENTRIES, 0);
     }
-    if refusal != OTHER_EDITION {
-        return hints::at(0, NOTHING);
+    if refusal == OTHER_EDITION {
+        return hints::at(0, EDITION, image::edition(file));
     }
-    Hint {
-        column: 0,
-        number: EDITION,
-        name: image::edition(file),
-    }
+    hints::at(0, NOTHING, 0)
 }

@@ -1,4 +1,5 @@
 // What is wrong on a line of a text, as far as can be told, and where.
+use crate::Hint;
 use crate::marks;
 use crate::marks::NOTHING;
 use crate::runs;
@@ -6,15 +7,8 @@ use program::Variable;
 use program::names::is_digit;
 use program::names::is_reserved;
 use program::names::is_user_name;
+use program::names::place_in;
 use reading::Reading;
-
-// The column of what is wrong, from 1; the number of its words, 0 where there are none; and the key of the name that they speak of, or the
-// edition.
-pub struct Hint {
-    pub column: usize,
-    pub number: u32,
-    pub name: u16,
-}
 
 // The refusals of a line that point at more than its beginning; those of a line by itself are known to its reading.
 const REPEATED: u8 = 6;
@@ -52,25 +46,27 @@ const READ_ONLY: u32 = 42;
 // The longest runs of digits.
 const DIGITS: usize = 10;
 
+// The operators, each in the bytes of a name.
+const OPERATORS: [u8; 14] = *b"+\0-\0*\0/\0&\0|\0^\0";
+
 const ZERO: u16 = b'0' as u16;
 
 const HIGHEST: u64 = Variable::HIGHEST_LITERAL as u64;
 
-// What is wrong at a place of a line.
-pub fn at(place: usize, number: u32) -> Hint {
+// What is wrong at a place of a line, and the name that it is about, or 0. No place is far behind the longest line.
+pub fn at(place: usize, number: u32, name: u16) -> Hint {
+    if text::Span::LONGEST < place {
+        return Hint {
+            column: 1,
+            number,
+            name,
+        };
+    }
     Hint {
-        column: column(place),
+        column: place + 1,
         number,
-        name: 0,
+        name,
     }
-}
-
-// The column of a place on a line; none is far behind the longest.
-fn column(place: usize) -> usize {
-    if place <= text::Span::LONGEST {
-        return place + 1;
-    }
-    1
 }
 
 // What is wrong with a run on a line that is no statement: it is too long, or too short for a name. A first run may be a mnemonic.
@@ -79,50 +75,34 @@ fn of_run(run: &[u8], is_first: bool) -> u32 {
     if is_first & (runs::mnemonic(run) != NOTHING) {
         return NOTHING;
     }
-    if is_digit(first) & (run.len() <= DIGITS) {
-        return NOTHING;
-    }
     if is_digit(first) {
-        return LONG_NUMBER;
+        return number_if(DIGITS < run.len(), LONG_NUMBER);
     }
     if runs::WORD < run.len() {
         return LONG_WORD;
     }
-    if (run.len() == 1) & !is_first & !is_reserved(first as u16) {
-        return ONE_LETTER;
-    }
-    NOTHING
+    let is_name = is_first | is_reserved(first as u16);
+    number_if((run.len() == 1) & !is_name, ONE_LETTER)
 }
 
-// A number that is no literal.
-fn is_big(run: &[u8]) -> bool {
-    let number = scripts::digits(run);
-    HIGHEST < number.size
-}
-
-// How a name is declared that is wanted as a label or as a variable; nothing where it is so.
-fn of_kind(text: &[u8], key: u16, wanted: u8) -> u32 {
-    let found = names::declared_as(text, key);
-    if found == wanted {
-        return NOTHING;
-    }
-    match found {
-        Reading::LABEL => IS_LABEL,
-        Reading::DECLARED => IS_VARIABLE,
-        _ => UNDECLARED,
-    }
-}
-
-// How the name is declared that a run is, if it is one of the user's: a label's, or else a variable's.
+// How the name is declared that a run is, if it is one of the user's and not declared as it is wanted: as a label, or else as a variable.
 fn of_user(text: &[u8], run: &[u8], is_label: bool) -> u32 {
     let key = runs::key(run);
     if !is_user_name(key) {
         return NOTHING;
     }
-    if is_label {
-        return of_kind(text, key, Reading::LABEL);
+    let found = names::declared_as(text, key);
+    if found == Reading::LABEL {
+        return number_if(!is_label, IS_LABEL);
     }
-    of_kind(text, key, Reading::DECLARED)
+    if found == Reading::DECLARED {
+        return number_if(is_label, IS_VARIABLE);
+    }
+    UNDECLARED
+}
+
+fn number_if(test: bool, number: u32) -> u32 {
+    if test { number } else { NOTHING }
 }
 
 // Whether a run is what a refusal points at. One run of the line is told apart: its first, or the name of a label.
@@ -131,7 +111,8 @@ fn is_meant(text: &[u8], run: &[u8], is_apart: bool, refusal: u8) -> bool {
         return of_run(run, is_apart) != NOTHING;
     }
     if refusal == Reading::BIG_LITERAL {
-        return is_big(run);
+        let number = scripts::digits(run);
+        return HIGHEST < number.size;
     }
     of_user(text, run, is_apart) != NOTHING
 }
@@ -166,27 +147,18 @@ fn stored_place(code: &[u8]) -> usize {
 
 // Whether an operator stands at a place.
 fn has_operator(code: &[u8], place: usize) -> bool {
-    match parts::byte(code, place) {
-        b'+' => true,
-        b'-' => true,
-        b'*' => true,
-        b'/' => true,
-        b'&' => true,
-        b'|' => true,
-        b'^' => true,
-        _ => false,
-    }
+    place_in(&OPERATORS, parts::byte(code, place) as u16) != 0
 }
 
 // The place behind a minus that stands at a place, or the place itself.
 fn past_minus(code: &[u8], at: usize) -> usize {
-    if parts::byte(code, at) != b'-' {
-        return at;
-    }
     if code.len() <= at {
         return at;
     }
-    at + 1
+    if code[at] == b'-' {
+        return at + 1;
+    }
+    at
 }
 
 // The place behind the operand that follows a sign.
@@ -202,14 +174,14 @@ fn behind_operand(code: &[u8], sign: usize) -> usize {
 fn of_setting(code: &[u8]) -> Hint {
     let first = runs::first(code);
     if of_run(runs::at(code, first), false) != NOTHING {
-        return at(first, ONE_LETTER);
+        return at(first, ONE_LETTER, 0);
     }
     let operator = behind_operand(code, runs::second(code));
     let next = behind_operand(code, operator);
     if has_operator(code, operator) & has_operator(code, next) {
-        return at(next, SECOND_OPERATOR);
+        return at(next, SECOND_OPERATOR, 0);
     }
-    at(first, NO_FORM)
+    at(first, NO_FORM, 0)
 }
 
 // A line that begins with a mnemonic: a number stands where a label's name is wanted, other than the one that OE takes, or what it takes.
@@ -217,9 +189,9 @@ fn of_mnemonic(code: &[u8], mnemonic: u32) -> Hint {
     let second = runs::second(code);
     let is_zero = (mnemonic == runs::OE) & (runs::key(runs::at(code, second)) == ZERO);
     if runs::wants_label(mnemonic) & is_digit(parts::byte(code, second)) & !is_zero {
-        return at(second, NUMBER_FOR_LABEL);
+        return at(second, NUMBER_FOR_LABEL, 0);
     }
-    at(runs::first(code), mnemonic)
+    at(runs::first(code), mnemonic, 0)
 }
 
 // How a line begins that is no statement.
@@ -233,35 +205,30 @@ fn of_beginning(code: &[u8]) -> Hint {
     }
     let first = runs::first(code);
     if Variable::number_of(runs::key(runs::at(code, first))) != 0 {
-        return at(first, NO_EQUALS);
+        return at(first, NO_EQUALS, 0);
     }
-    at(first, NO_STATEMENT)
+    at(first, NO_STATEMENT, 0)
 }
 
-// The first byte that stands wrong on a line.
-fn of_mark(line: &[u8], code: usize) -> Hint {
-    let place = marks::first(line, code);
-    at(place, marks::at(line, code, place))
-}
-
-// The first run that is wrong on a line.
-fn of_first_run(code: &[u8]) -> Hint {
+// The first run that is wrong on a line that is no statement, or how the line begins.
+fn of_words(code: &[u8]) -> Hint {
     let first = runs::first(code);
     let place = first_meant(code, code, first, Reading::BAD_FORM);
-    at(place, of_run(runs::at(code, place), place == first))
+    let number = of_run(runs::at(code, place), place == first);
+    if number == NOTHING {
+        return of_beginning(code);
+    }
+    at(place, number, 0)
 }
 
-// What is wrong on a line that is no statement: a byte, a run, or how it begins.
+// What is wrong on a line that is no statement: the first byte that stands wrong, or the words.
 fn of_form(line: &[u8], code: &[u8]) -> Hint {
-    let mark = of_mark(line, code.len());
-    if mark.number != NOTHING {
-        return mark;
+    let place = marks::first(line, code.len());
+    let number = marks::at(line, code.len(), place);
+    if number == NOTHING {
+        return of_words(code);
     }
-    let run = of_first_run(code);
-    if run.number != NOTHING {
-        return run;
-    }
-    of_beginning(code)
+    at(place, number, 0)
 }
 
 // Where a line gets a refusal, other than for its form.
@@ -294,12 +261,5 @@ pub fn of_line(text: &[u8], line: &[u8], refusal: u8) -> Hint {
     }
     let place = place_of(text, code, refusal);
     let number = number_of(text, code, place, refusal);
-    if number == NOTHING {
-        return at(place, NOTHING);
-    }
-    Hint {
-        column: column(place),
-        number,
-        name: runs::key(runs::at(code, place)),
-    }
+    at(place, number, runs::key(runs::at(code, place)))
 }

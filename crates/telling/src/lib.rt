@@ -10,11 +10,30 @@ pub mod trace;
 use writing::Line;
 use writing::Page;
 
+// How far a run is told: the next turn, event and record, and what the page holds.
+pub struct Mark {
+    pub turn: usize,
+    pub event: usize,
+    pub record: usize,
+    pub held: usize,
+}
+
+// The column of what is wrong, from 1; the number of its words, 0 where there are none; and the key of the name that they speak of, or the
+// edition.
+pub struct Hint {
+    pub column: usize,
+    pub number: u32,
+    pub name: u16,
+}
+
 // How many values a character of a name has.
 const BYTE: u16 = 256;
 
 // How much of a line of a file is shown.
 const MOST_SHOWN: usize = 100;
+
+// Nothing is counted further.
+const MOST_COUNTED: usize = 4294967296;
 
 // A byte of a file or of a name: one that is not plain is shown by its two hexadecimal digits.
 fn plain(line: Line, b: u8) -> Line {
@@ -84,47 +103,49 @@ pub fn part_number(line: Line, n: u32, value: u64) -> Line {
     part(line, n).number(value)
 }
 
-// The lines of the table that are for people, and the text on the tool's use.
-pub fn all_words(page: &mut Page) -> usize {
+// The bytes of the table of words from one place to before another.
+fn put_words(page: &mut Page, start: usize, end: usize) -> usize {
     let mut held: usize = 0;
-    for i in words::FIRST_FOR_PEOPLE..words::SIZE {
+    for i in start..end {
         held = writing::put_byte(page, held, words::letter(i));
     }
     held
 }
 
+// The lines of the table that are for people, and the text on the tool's use.
+pub fn all_words(page: &mut Page) -> usize {
+    put_words(page, words::FIRST_FOR_PEOPLE, words::HELP)
+}
+
 pub fn help(page: &mut Page) -> usize {
-    help_of(page, words::EVERY_COMMAND)
+    put_words(page, words::HELP, words::SIZE)
 }
 
-// What the text on the tool's use says on one command.
+// What the text on the tool's use says on one command; nothing where it tells of none with this number.
 pub fn help_of(page: &mut Page, command: u32) -> usize {
-    let mut held: usize = 0;
-    let mut shown = false;
-    for i in 0..words::HELP_SIZE {
-        shown = words::is_on_command(i, command, shown);
-        held = put_if(shown, page, held, words::help_letter(i));
+    if command < 1 {
+        return 0;
     }
-    held
-}
-
-fn put_if(test: bool, page: &mut Page, held: usize, b: u8) -> usize {
-    if test {
-        return writing::put_byte(page, held, b);
+    if words::LAST_COMMAND < command {
+        return 0;
     }
-    held
+    let end = command * words::COMMAND_LINES;
+    put_words(
+        page,
+        words::help_line(end - words::COMMAND_LINES),
+        words::help_line(end),
+    )
 }
 
 // What a number of an answer means: as a refusal, as an error and as an end.
 pub fn explain(page: &mut Page, number: u32) -> usize {
-    let mut held = explained(words::REFUSAL, number).onto(page, 0);
-    held = explained(words::ERROR, number).onto(page, held);
-    explained(words::END, number).onto(page, held)
+    let mut line = explained(Line::empty(), words::REFUSAL, number);
+    line = explained(line, words::ERROR, number);
+    explained(line, words::END, number).onto(page, 0)
 }
 
 // The line for a number of a kind, if there is one, and an example below it; an end needs none.
-fn explained(kind: u8, number: u32) -> Line {
-    let line = Line::empty();
+fn explained(line: Line, kind: u8, number: u32) -> Line {
     if words::line_for(kind, number) == words::SIZE {
         return line;
     }
@@ -133,4 +154,19 @@ fn explained(kind: u8, number: u32) -> Line {
         return told;
     }
     meaning(told.spaces(4), words::SAMPLE, number).end()
+}
+
+// One more and one less, as far as turns, events, records and lines go.
+fn one_more(n: usize) -> usize {
+    if n < MOST_COUNTED {
+        return n + 1;
+    }
+    n
+}
+
+fn one_less(n: usize) -> usize {
+    if 0 < n {
+        return n - 1;
+    }
+    0
 }

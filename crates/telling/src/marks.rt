@@ -39,45 +39,34 @@ const BYTE: u64 = 256;
 
 const TWO_BYTES: u64 = 65536;
 
-// What is known by three bytes, the first of them lowest.
-fn of_three(bytes: u64) -> u32 {
-    match bytes {
+// A byte above the plain ones, known by the two behind it or by one.
+fn of_wide(three: u64) -> u32 {
+    match three {
         0xbfbbef => BYTE_ORDER,
         0x9288e2 => MINUS,
         0x9380e2 => EN_DASH,
         0x9480e2 => EM_DASH,
-        _ => NOTHING,
+        _ => of_two(three % TWO_BYTES),
     }
 }
 
-// What is known by two bytes.
-fn of_two(bytes: u64) -> u32 {
-    match bytes {
+fn of_two(two: u64) -> u32 {
+    match two {
         0xfeff => WIDE_TEXT,
         0xfffe => WIDE_TEXT,
         0xa0c2 => WIDE_SPACE,
-        _ => NOTHING,
+        _ => NOT_PLAIN,
     }
 }
 
-// A byte that may stand nowhere in a line.
-fn of_byte(b: u8) -> u32 {
-    if b == 0 {
-        return WIDE_TEXT;
+// A byte below the plain ones.
+fn of_control(b: u8) -> u32 {
+    match b {
+        0 => WIDE_TEXT,
+        b'\t' => TAB,
+        b'\r' => CARRIAGE_RETURN,
+        _ => CONTROL,
     }
-    if b == b'\t' {
-        return TAB;
-    }
-    if b == b'\r' {
-        return CARRIAGE_RETURN;
-    }
-    if b < b' ' {
-        return CONTROL;
-    }
-    if b'~' < b {
-        return NOT_PLAIN;
-    }
-    NOTHING
 }
 
 // A character that may stand in a comment alone, with the one behind it.
@@ -100,21 +89,17 @@ fn of_character(b: u8, two: u64) -> u32 {
 
 // What is wrong with a byte that has these two behind it, in a comment or before it.
 fn of_bytes(three: u64, in_code: bool) -> u32 {
-    let two = three % TWO_BYTES;
     let b = (three % BYTE) as u8;
-    let known = of_three(three);
-    if known != NOTHING {
-        return known;
+    if b'~' < b {
+        return of_wide(three);
     }
-    let wide = of_two(two);
-    if wide != NOTHING {
-        return wide;
+    if b < b' ' {
+        return of_control(b);
     }
-    let bad = of_byte(b);
-    if (bad != NOTHING) | !in_code {
-        return bad;
+    if in_code {
+        return of_character(b, three % TWO_BYTES);
     }
-    of_character(b, two)
+    NOTHING
 }
 
 // What is wrong at a place of a line that has so many bytes before its comment.

@@ -1,7 +1,7 @@
 // Refusals and faults, as a compiler tells them: the file, the line and the column, the number with its words, the line itself, and a hint.
+use crate::Hint;
 use crate::given;
 use crate::hints;
-use crate::hints::Hint;
 use writing::Line;
 use writing::Page;
 
@@ -13,17 +13,13 @@ const SET_IN: usize = 4;
 
 // What stands behind the name of a file where no line is meant.
 fn nowhere() -> Line {
-    colon(Line::empty())
+    crate::part(Line::empty(), words::COLON)
 }
 
 // The same where a line and a column are meant: `:line:column: `.
 fn place(line: usize, column: usize) -> Line {
     let told = Line::empty().byte(b':').number(line as u64);
-    colon(told.byte(b':').number(column as u64))
-}
-
-fn colon(line: Line) -> Line {
-    crate::part(line, words::COLON)
+    crate::part(told.byte(b':').number(column as u64), words::COLON)
 }
 
 // The words of a refusal, to the end of the line.
@@ -31,38 +27,24 @@ fn refusal(line: Line, number: u8) -> Line {
     crate::words(line, words::REFUSAL, number as u32).end()
 }
 
-// A line of a file, set in.
-fn set_in(line: Line, shown: &[u8]) -> Line {
-    crate::shown(line.spaces(SET_IN), shown).end()
-}
-
-// The name that a hint begins with.
-fn name_before(line: Line, hint: Hint) -> Line {
-    if (hint.name == 0) | (hint.number == hints::UNDECLARED) | (hint.number == given::EDITION) {
-        return line;
-    }
-    crate::key(line, hint.name).byte(b' ')
-}
-
-// The name or the edition that a hint ends with.
-fn behind(line: Line, hint: Hint) -> Line {
-    if hint.number == hints::UNDECLARED {
-        return crate::key(line.byte(b' '), hint.name);
-    }
-    if hint.number == given::EDITION {
-        return line.byte(b' ').number(hint.name as u64);
-    }
-    line
-}
-
-// A hint, where there is one.
-fn hinted(mut line: Line, hint: Hint) -> Line {
+// A hint, where there is one. The name or the edition that it speaks of ends it, or the name begins it.
+fn hinted(line: Line, hint: Hint) -> Line {
     if hint.number == 0 {
         return line;
     }
-    line = name_before(line.spaces(SET_IN), hint);
-    line = crate::meaning(line, words::HINT, hint.number);
-    behind(line, hint).end()
+    let mut told = line.spaces(SET_IN);
+    if hint.number == given::EDITION {
+        told = crate::meaning(told, words::HINT, hint.number).byte(b' ');
+        return told.number(hint.name as u64).end();
+    }
+    if hint.number == hints::UNDECLARED {
+        told = crate::meaning(told, words::HINT, hint.number).byte(b' ');
+        return crate::key(told, hint.name).end();
+    }
+    if hint.name != 0 {
+        told = crate::key(told, hint.name).byte(b' ');
+    }
+    crate::meaning(told, words::HINT, hint.number).end()
 }
 
 // A file's name, and a line behind it, behind what the page holds.
@@ -74,12 +56,13 @@ pub fn put_behind(page: &mut Page, before: usize, path: &[u8], line: Line) -> us
 // What is said of a line by words from a place of their table on, with the line itself and a hint.
 fn shown(wrong: &[u8], line: usize, start: usize, hint: Hint) -> Line {
     let told = crate::line_of_words(place(line, hint.column), start).end();
-    hinted(set_in(told, wrong), hint)
+    hinted(crate::shown(told.spaces(SET_IN), wrong).end(), hint)
 }
 
-// Where the words of a refusal begin.
-fn refusal_start(number: u8) -> usize {
-    words::line_for(words::REFUSAL, number as u32)
+// The same by the words of a refusal.
+fn refused(wrong: &[u8], line: usize, number: u8, hint: Hint) -> Line {
+    let start = words::line_for(words::REFUSAL, number as u32);
+    shown(wrong, line, start, hint)
 }
 
 // A refusal of a whole file.
@@ -87,19 +70,10 @@ pub fn put(page: &mut Page, path: &[u8], number: u8) -> usize {
     put_behind(page, 0, path, refusal(nowhere(), number))
 }
 
-// A refusal of a line, behind what the page holds.
-pub fn put_of_line(
-    page: &mut Page,
-    before: usize,
-    path: &[u8],
-    text: &[u8],
-    line: usize,
-    number: u8,
-) -> usize {
+// A refusal of a line of a text.
+fn of_line(text: &[u8], line: usize, number: u8) -> Line {
     let wrong = parts::line(text, line);
-    let hint = hints::of_line(text, wrong, number);
-    let told = shown(wrong, line, refusal_start(number), hint);
-    put_behind(page, before, path, told)
+    refused(wrong, line, number, hints::of_line(text, wrong, number))
 }
 
 // The fault of the line behind so many others, where it has one and not enough are shown.
@@ -115,7 +89,7 @@ fn put_fault(
     if (fault == 0) | (MOST_SHOWN <= shown) {
         return held;
     }
-    put_of_line(page, held, path, text, line, fault)
+    put_behind(page, held, path, of_line(text, line, fault))
 }
 
 // How many lines are faulty, with one that has this fault or none.
@@ -123,10 +97,7 @@ fn counted(count: usize, fault: u8) -> usize {
     if fault == 0 {
         return count;
     }
-    if count < usize::MAX {
-        return count + 1;
-    }
-    count
+    crate::one_more(count)
 }
 
 // How many lines are faulty, where that is more than one; else nothing.
@@ -156,12 +127,8 @@ pub fn put_faults(page: &mut Page, path: &[u8], text: &[u8], faults: &[u8]) -> u
 
 // A refusal of an image, with what was given in its place.
 pub fn put_of_image(page: &mut Page, path: &[u8], image: &[u8], number: u8) -> usize {
-    put_behind(page, 0, path, of_image(image, number))
-}
-
-fn of_image(image: &[u8], number: u8) -> Line {
     let hint = given::instead(image, number);
-    hinted(refusal(nowhere(), number), hint)
+    put_behind(page, 0, path, hinted(refusal(nowhere(), number), hint))
 }
 
 // A refusal of an event that was given as bytes, and why it is bad.
@@ -176,9 +143,9 @@ pub fn put_of_event(
 }
 
 fn of_event(events: &[u8], index: usize, number: u8) -> Line {
-    let hint = hints::at(0, given::fault(events, index));
+    let hint = hints::at(0, given::fault(events, index), 0);
     let told = crate::part_number(nowhere(), words::EVENT, index as u64);
-    hinted(refusal(colon(told), number), hint)
+    hinted(refusal(crate::part(told, words::COLON), number), hint)
 }
 
 // A refusal of an event that was given on a line of a script, and why it is bad.
@@ -192,41 +159,38 @@ pub fn put_of_script_event(
     number: u8,
 ) -> usize {
     let wrong = parts::line(text, line);
-    let hint = given::on_line(wrong, events, index);
-    let told = shown(wrong, line, refusal_start(number), hint);
-    put_behind(page, 0, path, told)
+    let hint = given::on_line(wrong, given::fault(events, index));
+    put_behind(page, 0, path, refused(wrong, line, number, hint))
 }
 
 // A refusal of the turns.
 pub fn put_of_turns(page: &mut Page, turns: &[u8], number: u8) -> usize {
-    put_behind(page, 0, turns, of_turns(number))
-}
-
-fn of_turns(number: u8) -> Line {
-    refusal(crate::part(Line::empty(), words::TURNS_ASKED), number)
+    let told = crate::part(Line::empty(), words::TURNS_ASKED);
+    put_behind(page, 0, turns, refusal(told, number))
 }
 
 // A fault of a script, with its line.
 pub fn put_of_script(page: &mut Page, path: &[u8], text: &[u8], line: usize, fault: u8) -> usize {
-    let wrong = parts::line(text, line);
-    let hint = given::in_script(wrong, fault);
-    let told = shown(
-        wrong,
-        line,
-        words::meaning_for(words::SCRIPT, fault as u32),
-        hint,
-    );
-    put_behind(page, 0, path, told)
+    put_behind(
+        page,
+        0,
+        path,
+        of_script(parts::line(text, line), line, fault),
+    )
+}
+
+fn of_script(wrong: &[u8], line: usize, fault: u8) -> Line {
+    let place = scripts::place_of_fault(parts::code(wrong), fault);
+    let start = words::meaning_for(words::SCRIPT, fault as u32);
+    shown(wrong, line, start, hints::at(place, 0, 0))
 }
 
 // What is wrong with a word or a file that was given.
 pub fn put_of_use(page: &mut Page, given: &[u8], number: u32) -> usize {
     let held = put_trouble(page, given);
-    of_use(number).onto(page, held)
-}
-
-fn of_use(number: u32) -> Line {
-    crate::meaning(nowhere(), words::USAGE, number).end()
+    crate::meaning(nowhere(), words::USAGE, number)
+        .end()
+        .onto(page, held)
 }
 
 // The tool's name and a file's, for what the system says of it.

@@ -80,13 +80,10 @@ fn put_changes(page: &mut Page, before: usize, image: &[u8], now: &[i32], start:
 
 // Why a run ended, and after how many turns and records.
 pub fn put_end(page: &mut Page, held: usize, reason: u8, turns: u64, records: usize) -> usize {
-    end(reason, turns, records as u64).onto(page, held)
-}
-
-fn end(reason: u8, turns: u64, records: u64) -> Line {
     let mut line = crate::words(Line::empty(), words::END, reason as u32).end();
     line = crate::part_number(line, words::TURNS, turns).end();
-    crate::part_number(line, words::RECORDS, records).end()
+    line = crate::part_number(line, words::RECORDS, records as u64).end();
+    line.onto(page, held)
 }
 
 // The state at the end: the position, the motion, the outputs, and each value that is not the one at the start.

@@ -1,17 +1,10 @@
 // A run told turn by turn: the events, the statement with its line, and what it recorded.
+use crate::Mark;
 use crate::state;
 use events::Event;
 use events::Record;
 use writing::Line;
 use writing::Page;
-
-// How far a run is told: the next turn, event and record, and what the page holds.
-pub struct Mark {
-    pub turn: usize,
-    pub event: usize,
-    pub record: usize,
-    pub held: usize,
-}
 
 // The columns: turns, lines and statements, and what stands between two of them.
 const TURN_WIDTH: usize = 9;
@@ -22,42 +15,27 @@ const STATEMENT_WIDTH: usize = 24;
 
 const GAP: usize = 2;
 
+// Where the column of what was recorded begins, behind its gap.
+const RECORD_COLUMN: usize = TURN_WIDTH + GAP + LINE_WIDTH + GAP + STATEMENT_WIDTH;
+
 // What a last turn has of the first column, with the dash before it.
 const BEFORE_DASH: usize = TURN_WIDTH - 1;
 
 // A page that holds this much is full: it has room for one line, and for the end of a run.
 const FULL: usize = writing::PAGE - 4 * writing::LINE;
 
+// More lines than a page has room for.
+const MOST_LINES: usize = writing::PAGE;
+
 // No turn has this number.
 const NO_TURN: usize = 4294967296;
 
-// For each place of a text the number of its line, in two bytes.
-type Lines = [u8; 512];
-
-fn no_lines() -> Lines {
-    [0; 512]
-}
-
-fn all_lines<'a>(lines: &'a Lines) -> &'a [u8] {
-    parts::front(lines, 512)
-}
-
-fn put_lines(lines: &mut Lines, text: &[u8]) {
-    for place in 0..256 {
-        let found = translation::line_of(text, place as u16);
-        if found.line == 0 {
-            return;
-        }
-        numbers::write(lines, place * 2, 2, found.line as u64);
-    }
-}
-
-// A number of two bytes by its place in a list.
-fn listed(bytes: &[u8], k: usize) -> usize {
-    if Event::MOST < k {
+// The place of a text where a turn is, among those of a run.
+fn place_of(visits: &[u8], turn: usize) -> u16 {
+    if Event::MOST < turn {
         return 0;
     }
-    numbers::read2(bytes, k * 2) as usize
+    numbers::read2(visits, turn * 2)
 }
 
 // A record or an event by its number; none has a number above the most.
@@ -76,25 +54,17 @@ fn turn_of(bytes: &[u8], k: usize) -> usize {
     entry(bytes, k).turn as usize
 }
 
-// One more, as far as turns, events and records go.
-fn one_more(n: usize) -> usize {
-    if n < NO_TURN {
-        return n + 1;
-    }
-    n
-}
-
 // The turn after a stay at one place that begins with this turn. A turn that records something is one by itself; the stay ends
 // before the next such turn, and before the next event.
 fn stay_end(visits: &[u8], turns: usize, turn: usize, record: usize, event: usize) -> usize {
     if record == turn {
-        return one_more(turn);
+        return crate::one_more(turn);
     }
-    let place = listed(visits, turn);
+    let place = place_of(visits, turn);
     let mut end = turn;
     while end < turns {
         end += 1;
-        if (end == record) | (end == event) | (listed(visits, end) != place) {
+        if (end == record) | (end == event) | (place_of(visits, end) != place) {
             return end;
         }
     }
@@ -111,14 +81,6 @@ fn turns_of(mut line: Line, turn: u64, last: u64) -> Line {
         line = line.number_to(turn, BEFORE_DASH - used);
     }
     line.byte(b'-').number(last)
-}
-
-// The turn before one.
-fn one_less(end: usize) -> u64 {
-    if 0 < end {
-        return (end - 1) as u64;
-    }
-    0
 }
 
 // An event in words: its kind, its number where it has one, and its value unless a move arrives.
@@ -138,25 +100,6 @@ fn event_line(event: Event) -> Line {
     let mut line = Line::empty().number_to(event.turn as u64, TURN_WIDTH);
     line = line.spaces(GAP + LINE_WIDTH + GAP);
     event_in_words(crate::part(line, words::EVENT_ROW), event).end()
-}
-
-// The events of the turn that is next.
-fn put_events(page: &mut Page, mark: Mark, events: &[u8]) -> Mark {
-    let mut k = mark.event;
-    let mut held = mark.held;
-    while k < Event::MOST {
-        if (turn_of(events, k) != mark.turn) | (FULL <= held) {
-            break;
-        }
-        held = event_line(entry(events, k)).onto(page, held);
-        k += 1;
-    }
-    Mark {
-        turn: mark.turn,
-        event: k,
-        record: mark.record,
-        held,
-    }
 }
 
 // The output of a record, or the variable that was printed.
@@ -181,34 +124,50 @@ fn record_in_words(mut line: Line, image: &[u8], record: Event) -> Line {
 
 // The statement of a turn or of a stay at one place, with its turns and its line.
 fn row(turn: usize, end: usize, number: usize, statement: &[u8]) -> Line {
-    let mut line = turns_of(Line::empty(), turn as u64, one_less(end));
+    let mut line = turns_of(Line::empty(), turn as u64, crate::one_less(end) as u64);
     line = line.spaces(GAP).number_to(number as u64, LINE_WIDTH);
     line.spaces(GAP).bytes(statement)
 }
 
-// What a turn recorded, in the column behind a statement of so many bytes.
-fn recorded(mut line: Line, used: usize, image: &[u8], record: Event) -> Line {
-    if used < STATEMENT_WIDTH {
-        line = line.spaces(STATEMENT_WIDTH - used);
+// The same for what stands at a place of a text.
+fn row_of(text: &[u8], place: u16, turn: usize, end: usize) -> Line {
+    let found = translation::line_of(text, place);
+    let statement = parts::uncommented(parts::between(text, found.start, found.end));
+    row(turn, end, found.line, statement)
+}
+
+// What a turn recorded, in its column.
+fn recorded(mut line: Line, image: &[u8], record: Event) -> Line {
+    if line.held < RECORD_COLUMN {
+        line = line.spaces(RECORD_COLUMN - line.held);
     }
     record_in_words(line.spaces(GAP), image, record)
 }
 
-// The line of a turn or of a stay at one place.
+// An event of the turn that is next.
+fn put_event(page: &mut Page, mark: Mark, events: &[u8]) -> Mark {
+    Mark {
+        turn: mark.turn,
+        event: crate::one_more(mark.event),
+        record: mark.record,
+        held: event_line(entry(events, mark.event)).onto(page, mark.held),
+    }
+}
+
+// A turn or a stay at one place, up to before another turn.
 fn put_turn(
     page: &mut Page,
     mark: Mark,
     end: usize,
-    statement: &[u8],
-    number: usize,
+    row: Line,
     image: &[u8],
     records: &[u8],
 ) -> Mark {
-    let mut line = row(mark.turn, end, number, statement);
+    let mut line = row;
     let mut record = mark.record;
     if turn_of(records, record) == mark.turn {
-        line = recorded(line, statement.len(), image, entry(records, record));
-        record = one_more(record);
+        line = recorded(line, image, entry(records, record));
+        record = crate::one_more(record);
     }
     Mark {
         turn: end,
@@ -218,32 +177,8 @@ fn put_turn(
     }
 }
 
-// One turn or stay, behind the events of its first turn.
+// The next line: an event, or else a turn or a stay.
 fn put_step(
-    page: &mut Page,
-    before: Mark,
-    text: &[u8],
-    lines: &[u8],
-    image: &[u8],
-    events: &[u8],
-    records: &[u8],
-    visits: &[u8],
-    turns: usize,
-) -> Mark {
-    let mark = put_events(page, before, events);
-    if FULL <= mark.held {
-        return mark;
-    }
-    let record = turn_of(records, mark.record);
-    let event = turn_of(events, mark.event);
-    let end = stay_end(visits, turns, mark.turn, record, event);
-    let number = listed(lines, listed(visits, mark.turn));
-    let statement = parts::uncommented(parts::line(text, number));
-    put_turn(page, mark, end, statement, number, image, records)
-}
-
-// The run of a text from a mark on, as much of it as the page has room for: for its turns the places, and its events and records.
-pub fn put(
     page: &mut Page,
     mark: Mark,
     text: &[u8],
@@ -253,26 +188,21 @@ pub fn put(
     visits: &[u8],
     turns: usize,
 ) -> Mark {
-    let mut lines = no_lines();
-    put_lines(&mut lines, text);
-    put_steps(
-        page,
-        mark,
-        text,
-        all_lines(&lines),
-        image,
-        events,
-        records,
-        visits,
-        turns,
-    )
+    let event = turn_of(events, mark.event);
+    if event == mark.turn {
+        return put_event(page, mark, events);
+    }
+    let record = turn_of(records, mark.record);
+    let end = stay_end(visits, turns, mark.turn, record, event);
+    let row = row_of(text, place_of(visits, mark.turn), mark.turn, end);
+    put_turn(page, mark, end, row, image, records)
 }
 
-fn put_steps(
+// The run of a text from a mark on, as much of it as the page has room for: for its turns the places, and its events and records.
+pub fn put(
     page: &mut Page,
     before: Mark,
     text: &[u8],
-    lines: &[u8],
     image: &[u8],
     events: &[u8],
     records: &[u8],
@@ -280,21 +210,11 @@ fn put_steps(
     turns: usize,
 ) -> Mark {
     let mut mark = before;
-    for _ in 0..turns {
+    for _ in 0..MOST_LINES {
         if (turns <= mark.turn) | (FULL <= mark.held) {
             break;
         }
-        mark = put_step(
-            page,
-            mark,
-            text,
-            lines,
-            image,
-            events,
-            records,
-            visits,
-            turns,
-        );
+        mark = put_step(page, mark, text, image, events, records, visits, turns);
     }
     mark
 }
@@ -305,12 +225,10 @@ pub fn begun(page: &mut Page) -> Mark {
         turn: 0,
         event: 0,
         record: 0,
-        held: header().onto(page, 0),
+        held: crate::part(Line::empty(), words::HEADER)
+            .end()
+            .onto(page, 0),
     }
-}
-
-fn header() -> Line {
-    crate::part(Line::empty(), words::HEADER).end()
 }
 
 // The records from a number on, each on a line of its own with its turn, as many as the page has room for.

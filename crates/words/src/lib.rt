@@ -76,20 +76,44 @@ pub const STANDARD_INPUT: u32 = 24;
 
 pub const VERSION: u32 = 25;
 
-// No command has this number: it stands for all of them, and for what the text on the tool's use says besides.
+// No command has this number.
 pub const EVERY_COMMAND: u32 = 0;
 
-// The bytes of the table, the place of the first line for people, the number of lines, and the bytes of the longest line with its end.
-// What is sought most often stands first.
-pub const SIZE: usize = 6881;
+// The last command that the text on the tool's use tells of, and how many lines it has on each.
+pub const LAST_COMMAND: u32 = 7;
 
-pub const FIRST_FOR_PEOPLE: usize = 1944;
+pub const COMMAND_LINES: u32 = 3;
 
+// The table stands in five pieces, since a long one is dear to prove: lines for the tool, numbers of answers, hints, wrong uses, and the text
+// on the tool's use, which is no part of the lines. What is sought most often stands first.
+const TOOL_SIZE: usize = 1944;
+
+const ANSWER_SIZE: usize = 1518;
+
+const HINT_SIZE: usize = 2366;
+
+const USE_SIZE: usize = 1053;
+
+const HELP_SIZE: usize = 1634;
+
+// Where the first line for people begins, the text on the tool's use, and in it what it says on the first command; and the bytes of all.
+pub const FIRST_FOR_PEOPLE: usize = TOOL_SIZE;
+
+pub const HELP: usize = TOOL_SIZE + ANSWER_SIZE + HINT_SIZE + USE_SIZE;
+
+const FIRST_COMMAND: usize = HELP + 68;
+
+pub const SIZE: usize = HELP + HELP_SIZE;
+
+// The number of lines, and the bytes of the longest with its end.
 const LINE_COUNT: usize = 173;
 
 pub const LONGEST: usize = 76;
 
-const LINES: [u8; SIZE] = *b"event 1: input
+// The byte of the digit 0 is a multiple of this.
+const DIGITS_FROM: u8 = 16;
+
+const TOOL: [u8; TOOL_SIZE] = *b"event 1: input
 event 2: arrived
 event 3: position
 item 1: output 
@@ -161,7 +185,9 @@ such 103: O1=2, as an output is 0 or 1
 such 104: LB AA, CL AA: the ninth call finds no place
 such 105: RT, and no CL before it
 such 106: MR 100 twice, and no H between them
-refusal 1: the text has more than 16,384 bytes
+";
+
+const ANSWERS: [u8; ANSWER_SIZE] = *b"refusal 1: the text has more than 16,384 bytes
 refusal 2: the line has more than 64 bytes
 refusal 3: a byte or a form that no statement has
 refusal 4: a number outside -2,147,483,647 to 2,147,483,647
@@ -189,7 +215,9 @@ error 106: a move while the axis is moving
 end 1: past the last statement
 end 2: stopped, no return place was free for the handler
 end 3: every turn that was asked for is used
-hint 1: a TAB; only blanks may stand between words
+";
+
+const HINTS: [u8; HINT_SIZE] = *b"hint 1: a TAB; only blanks may stand between words
 hint 2: a carriage return that no line feed follows
 hint 3: a control character
 hint 4: not a plain character; marks pasted from a manual are often curly
@@ -241,7 +269,10 @@ hint 49: this looks like a text
 hint 50: this looks like events or records
 hint 51: the file is empty
 hint 52: edition
-script 1: no event; TURN arrived, TURN input N VALUE or TURN position VALUE
+";
+
+const USES: [u8; USE_SIZE] =
+    *b"script 1: no event; TURN arrived, TURN input N VALUE or TURN position VALUE
 script 2: a number that does not fit in an event
 usage 1: wants TEXT [EVENTS] [TURNS]
 usage 2: wants [-f] TEXT IMAGE
@@ -264,12 +295,8 @@ usage 19: wants nothing
 usage 20: wants [COMMAND or NUMBER]
 ";
 
-pub const HELP_SIZE: usize = 1634;
-
-// Where on its line the name of a command stands.
-const COMMAND_PLACE: usize = 9;
-
-const HELP: [u8; HELP_SIZE] = *b"punnet: MCode programs tried on the bench before a motor sees them
+const HELP_TEXT: [u8; HELP_SIZE] =
+    *b"punnet: MCode programs tried on the bench before a motor sees them
 
   punnet try TEXT [EVENTS] [TURNS]
       translate a text, run it, and tell what happened turn by turn
@@ -305,12 +332,41 @@ what is written is replaced only with -f.
 The status is 0 accepted or run, 1 refused, 2 usage or file trouble.
 ";
 
-// The byte of the table at a place; an end of line past the table.
-pub fn letter(at: usize) -> u8 {
-    if at < SIZE {
-        return LINES[at];
+// The byte of the text on the tool's use at a place; an end of line past the text.
+fn help_letter(at: usize) -> u8 {
+    if at < HELP_SIZE {
+        return HELP_TEXT[at];
     }
     b'\n'
+}
+
+// The byte at a place from the wrong uses on, from the hints on, from the answers on, and from the table's beginning on.
+fn use_letter(at: usize) -> u8 {
+    if at < USE_SIZE {
+        return USES[at];
+    }
+    help_letter(at - USE_SIZE)
+}
+
+fn hint_letter(at: usize) -> u8 {
+    if at < HINT_SIZE {
+        return HINTS[at];
+    }
+    use_letter(at - HINT_SIZE)
+}
+
+fn answer_letter(at: usize) -> u8 {
+    if at < ANSWER_SIZE {
+        return ANSWERS[at];
+    }
+    hint_letter(at - ANSWER_SIZE)
+}
+
+pub fn letter(at: usize) -> u8 {
+    if at < TOOL_SIZE {
+        return TOOL[at];
+    }
+    answer_letter(at - TOOL_SIZE)
 }
 
 // The byte of the table so many places behind one.
@@ -322,14 +378,6 @@ pub fn letter_behind(start: usize, i: usize) -> u8 {
         return b'\n';
     }
     letter(start + i)
-}
-
-// The byte of the text on the tool's use at a place; an end of line past the text.
-pub fn help_letter(at: usize) -> u8 {
-    if at < HELP_SIZE {
-        return HELP[at];
-    }
-    b'\n'
 }
 
 // The place behind the first such byte from here on; the table's size where there is none.
@@ -344,27 +392,16 @@ fn place_behind(byte: u8, at: usize) -> usize {
     SIZE
 }
 
-// A number of up to three digits with one more, where the character is a digit.
-fn with_digit(number: u32, character: u8) -> u32 {
-    if character < b'0' {
-        return number;
-    }
-    if b'9' < character {
-        return number;
-    }
-    number % 100 * 10 + ((character - b'0') as u32)
-}
-
 // The number that stands before the colon in the line at this place.
 fn number_of_line(at: usize) -> u32 {
     let mut number: u32 = 0;
-    let mut i = at;
+    let mut i = place_behind(b' ', at);
     while i < SIZE {
-        let character = letter(i);
-        if character == b':' {
+        let digit = letter(i);
+        if digit == b':' {
             return number;
         }
-        number = with_digit(number, character);
+        number = number % 100 * 10 + ((digit % DIGITS_FROM) as u32);
         i += 1;
     }
     number
@@ -415,45 +452,11 @@ pub fn number_for(kind: u8, word: &[u8]) -> u32 {
     0
 }
 
-// Whether the name of a command stands at a place of the text on the tool's use, with nothing or a blank behind it.
-fn is_named(at: usize, command: u32) -> bool {
-    if HELP_SIZE <= at {
-        return false;
+// The place of a line of the text on the tool's use, by how many stand before it from that on the first command on.
+pub fn help_line(count: u32) -> usize {
+    let mut at = FIRST_COMMAND;
+    for _ in 0..count {
+        at = place_behind(b'\n', at);
     }
-    let start = meaning_for(COMMAND, command);
-    for i in 0..LONGEST {
-        let b = letter_behind(start, i);
-        let shown = help_letter(at + i);
-        if b == b'\n' {
-            return (shown == b' ') | (shown == b'\n');
-        }
-        if shown != b {
-            return false;
-        }
-    }
-    false
-}
-
-// Whether the byte at a place of the text on the tool's use is on a command, by whether the byte before it is. What is on a command begins
-// with the tool's name and the command's behind two blanks; the lines below are set in further.
-pub fn is_on_command(at: usize, command: u32, before: bool) -> bool {
-    if command == EVERY_COMMAND {
-        return true;
-    }
-    if at == 0 {
-        return false;
-    }
-    if HELP_SIZE <= at {
-        return false;
-    }
-    if help_letter(at - 1) != b'\n' {
-        return before;
-    }
-    if help_letter(at) != b' ' {
-        return false;
-    }
-    if help_letter(at + 2) == b' ' {
-        return before;
-    }
-    is_named(at + COMMAND_PLACE, command)
+    at
 }

@@ -15,4 +15,4 @@ pub place-of-fault-spec : {M : Type 1} → statement M
 place-of-fault-spec =
     tie.close
     (tie.spec Inv-loop μ-loop (search needs) (search needs) (search needs) (search needs) (search needs) (search needs) (search needs)
-    (search needs) (search needs) (search needs) (search needs) (search needs) (search needs))
+    (search needs) (search needs) (search needs) (search needs))

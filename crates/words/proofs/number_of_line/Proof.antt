@@ -9,10 +9,10 @@ abbrev Inv-loop : tie.InvT-loop
 Inv-loop at number₀ i₀ number i = Unit {0}
 
 abbrev μ-loop : tie.MeasureT-loop
-μ-loop at number₀ i₀ number i = 6881 - i
+μ-loop at number₀ i₀ number i = 8515 - i
 
 pub number-of-line-spec : {M : Type 1} → statement M
 number-of-line-spec =
     tie.close
     (tie.spec Inv-loop μ-loop (search needs) (search needs) (search needs) (search needs) (search needs) (search needs) (search needs)
-    (search needs))
+    (search needs) (search needs) (search needs) (search needs))

@@ -1,0 +1,18 @@
+-- `fault_on` is safe and ends.
+-- Assumes nothing.
+use Prim.Native.Nat.{_-_}
+use borrow.Author.Needs.{needs}
+use Rattle.scripts.proofs.fault_on.Statement.{statement}
+use Rattle.scripts.proofs.fault_on.Tie as tie
+
+abbrev Inv-loop : tie.InvT-loop
+Inv-loop line kind count number₀ number = Unit {0}
+
+abbrev μ-loop : tie.MeasureT-loop
+μ-loop line kind count number₀ number = count - number
+
+pub fault-on-spec : {M : Type 1} → statement M
+fault-on-spec =
+    tie.close
+    (tie.spec Inv-loop μ-loop (search needs) (search needs) (search needs) (search needs) (search needs) (search needs) (search needs)
+    (search needs) (search needs) (search needs) (search needs))
