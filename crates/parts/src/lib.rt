@@ -37,11 +37,6 @@ pub fn byte(bytes: &[u8], at: usize) -> u8 {
     0
 }
 
-// One of two.
-pub fn either<'a>(first: bool, a: &'a [u8], b: &'a [u8]) -> &'a [u8] {
-    if first { a } else { b }
-}
-
 pub fn same(a: &[u8], b: &[u8]) -> bool {
     if a.len() != b.len() {
         return false;

@@ -42,21 +42,26 @@ fn of_input(event: Event) -> u32 {
     NOT_ZERO
 }
 
+// Why a position is bad.
+fn of_place(event: Event) -> u32 {
+    if (event.number == 0) & (event.zeros == 0) {
+        return FAR_PLACE;
+    }
+    NOT_ZERO
+}
+
 // Why a bad event is bad that follows one in this turn.
 fn of_event(event: Event, before: u32) -> u32 {
     if event.turn < before {
         return FALLING;
     }
-    if event.kind == Event::INPUT {
-        return of_input(event);
+    let kind = event.kind;
+    match kind {
+        Event::INPUT => of_input(event),
+        Event::ARRIVAL => NOT_ZERO,
+        Event::PLACE => of_place(event),
+        _ => NO_KIND,
     }
-    if (event.kind == Event::PLACE) & (event.number == 0) & (event.zeros == 0) {
-        return FAR_PLACE;
-    }
-    if (event.kind == Event::PLACE) | (event.kind == Event::ARRIVAL) {
-        return NOT_ZERO;
-    }
-    NO_KIND
 }
 
 // Why the event with this number is bad. The first has none before it, and so is not below itself.
@@ -94,18 +99,14 @@ fn is_text(bytes: &[u8]) -> bool {
     true
 }
 
-// A kind and zeros as an event or a record has them. The last zeros stand where an image has its edition.
-fn may_be_entry(entry: Event) -> bool {
-    (1 <= entry.kind) & (entry.kind <= Record::FAILED) & (entry.zeros == 0)
-}
-
-// Such entries alone, in 12 bytes each.
+// Entries with a kind and zeros as an event or a record has them alone, in 12 bytes each. The last zeros stand where an image has its edition.
 pub fn are_entries(bytes: &[u8]) -> bool {
     if events::script::is_bad_script(bytes) {
         return false;
     }
     for k in 0..events::script::event_count(bytes) {
-        if !may_be_entry(entry(bytes, k)) {
+        let entry = entry(bytes, k);
+        if (entry.kind < 1) | (Record::FAILED < entry.kind) | (entry.zeros != 0) {
             return false;
         }
     }
@@ -113,18 +114,18 @@ pub fn are_entries(bytes: &[u8]) -> bool {
 }
 
 // What was given in place of an image, with this refusal.
-pub fn instead(file: &[u8], refusal: u8) -> Hint {
+pub fn instead(file: &[u8], refusal: u8) -> u32 {
     if file.len() == 0 {
-        return hints::at(0, EMPTY, 0);
+        return EMPTY;
     }
     if is_text(file) {
-        return hints::at(0, TEXT, 0);
+        return TEXT;
     }
     if are_entries(file) {
-        return hints::at(0, ENTRIES, 0);
+        return ENTRIES;
     }
     if refusal == OTHER_EDITION {
-        return hints::at(0, EDITION, image::edition(file));
+        return EDITION;
     }
-    hints::at(0, NOTHING, 0)
+    NOTHING
 }

@@ -53,6 +53,11 @@ const ZERO: u16 = b'0' as u16;
 
 const HIGHEST: u64 = Variable::HIGHEST_LITERAL as u64;
 
+// Whether a hint begins with the name that it is about.
+pub fn begins_with_name(number: u32) -> bool {
+    (IS_VARIABLE <= number) & (number <= READ_ONLY)
+}
+
 // What is wrong at a place of a line, and the name that it is about, or 0. No place is far behind the longest line.
 pub fn at(place: usize, number: u32, name: u16) -> Hint {
     if text::Span::LONGEST < place {

@@ -123,17 +123,13 @@ pub fn help(page: &mut Page) -> usize {
 
 // What the text on the tool's use says on one command; nothing where it tells of none with this number.
 pub fn help_of(page: &mut Page, command: u32) -> usize {
-    if command < 1 {
-        return 0;
-    }
     if words::LAST_COMMAND < command {
         return 0;
     }
-    let end = command * words::COMMAND_LINES;
     put_words(
         page,
-        words::help_line(end - words::COMMAND_LINES),
-        words::help_line(end),
+        words::help_place(command),
+        words::help_place(command + 1),
     )
 }
 

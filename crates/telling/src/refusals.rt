@@ -41,7 +41,7 @@ fn hinted(line: Line, hint: Hint) -> Line {
         told = crate::meaning(told, words::HINT, hint.number).byte(b' ');
         return crate::key(told, hint.name).end();
     }
-    if hint.name != 0 {
+    if hints::begins_with_name(hint.number) {
         told = crate::key(told, hint.name).byte(b' ');
     }
     crate::meaning(told, words::HINT, hint.number).end()
@@ -127,7 +127,7 @@ pub fn put_faults(page: &mut Page, path: &[u8], text: &[u8], faults: &[u8]) -> u
 
 // A refusal of an image, with what was given in its place.
 pub fn put_of_image(page: &mut Page, path: &[u8], image: &[u8], number: u8) -> usize {
-    let hint = given::instead(image, number);
+    let hint = hints::at(0, given::instead(image, number), image::edition(image));
     put_behind(page, 0, path, hinted(refusal(nowhere(), number), hint))
 }
 

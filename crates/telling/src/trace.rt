@@ -72,7 +72,8 @@ fn stay_end(visits: &[u8], turns: usize, turn: usize, record: usize, event: usiz
 }
 
 // The column of turns: one turn, or the first and the last of several.
-fn turns_of(mut line: Line, turn: u64, last: u64) -> Line {
+fn turns_of(turn: u64, last: u64) -> Line {
+    let mut line = Line::empty();
     if last <= turn {
         return line.number_to(turn, TURN_WIDTH);
     }
@@ -122,18 +123,13 @@ fn record_in_words(mut line: Line, image: &[u8], record: Event) -> Line {
     source(line, image, record.kind, record.number).signed(record.value)
 }
 
-// The statement of a turn or of a stay at one place, with its turns and its line.
-fn row(turn: usize, end: usize, number: usize, statement: &[u8]) -> Line {
-    let mut line = turns_of(Line::empty(), turn as u64, crate::one_less(end) as u64);
-    line = line.spaces(GAP).number_to(number as u64, LINE_WIDTH);
-    line.spaces(GAP).bytes(statement)
-}
-
-// The same for what stands at a place of a text.
-fn row_of(text: &[u8], place: u16, turn: usize, end: usize) -> Line {
+// The statement of a turn or of a stay at a place of a text, with its turns and its line.
+fn row(text: &[u8], place: u16, turn: usize, end: usize) -> Line {
     let found = translation::line_of(text, place);
     let statement = parts::uncommented(parts::between(text, found.start, found.end));
-    row(turn, end, found.line, statement)
+    let mut line = turns_of(turn as u64, crate::one_less(end) as u64).spaces(GAP);
+    line = line.number_to(found.line as u64, LINE_WIDTH);
+    line.spaces(GAP).bytes(statement)
 }
 
 // What a turn recorded, in its column.
@@ -194,7 +190,7 @@ fn put_step(
     }
     let record = turn_of(records, mark.record);
     let end = stay_end(visits, turns, mark.turn, record, event);
-    let row = row_of(text, place_of(visits, mark.turn), mark.turn, end);
+    let row = row(text, place_of(visits, mark.turn), mark.turn, end);
     put_turn(page, mark, end, row, image, records)
 }
 

@@ -79,10 +79,11 @@ pub const VERSION: u32 = 25;
 // No command has this number.
 pub const EVERY_COMMAND: u32 = 0;
 
-// The last command that the text on the tool's use tells of, and how many lines it has on each.
+// The last command that the text on the tool's use tells of.
 pub const LAST_COMMAND: u32 = 7;
 
-pub const COMMAND_LINES: u32 = 3;
+// No line that is sought by its meaning has this number or a higher one.
+const MOST_SOUGHT: u32 = 16;
 
 // The table stands in five pieces, since a long one is dear to prove: lines for the tool, numbers of answers, hints, wrong uses, and the text
 // on the tool's use, which is no part of the lines. What is sought most often stands first.
@@ -440,23 +441,24 @@ fn is_word(word: &[u8], at: usize) -> bool {
     letter_behind(at, i) == b'\n'
 }
 
-// The number of the line of a kind that means a word; 0 where there is none.
+// The number of the line of a kind that means a word, among the first; 0 where there is none.
 pub fn number_for(kind: u8, word: &[u8]) -> u32 {
-    let mut at: usize = 0;
-    for _ in 0..LINE_COUNT {
-        if (letter_behind(at, 1) == kind) & is_word(word, meaning_of_line(at)) {
-            return number_of_line(at);
+    if word.len() == 0 {
+        return 0;
+    }
+    for number in 1..MOST_SOUGHT {
+        if is_word(word, meaning_for(kind, number)) {
+            return number;
         }
-        at = place_behind(b'\n', at);
     }
     0
 }
 
-// The place of a line of the text on the tool's use, by how many stand before it from that on the first command on.
-pub fn help_line(count: u32) -> usize {
+// Where the text on the tool's use tells of a command: in three lines for each, in their order. Behind the last stands what it says besides.
+pub fn help_place(command: u32) -> usize {
     let mut at = FIRST_COMMAND;
-    for _ in 0..count {
-        at = place_behind(b'\n', at);
+    for _ in 1..command {
+        at = place_behind(b'\n', place_behind(b'\n', place_behind(b'\n', at)));
     }
     at
 }

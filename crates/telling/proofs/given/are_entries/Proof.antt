@@ -15,4 +15,4 @@ pub are-entries-spec : {M : Type 1} → statement M
 are-entries-spec =
     tie.close
     (tie.spec Inv-loop μ-loop (search needs) (search needs) (search needs) (search needs) (search needs) (search needs) (search needs)
-    (search needs) (search needs) (search needs) (search needs))
+    (search needs) (search needs) (search needs))
