@@ -99,19 +99,12 @@ fn put_help(page: &mut Page, word: &[u8]) -> usize {
     }
     let number = scripts::digits(word);
     if number.fault != scripts::NO_FAULT {
-        return put_help_of(page, words::number_for(words::COMMAND, word));
+        return telling::help_of(page, words::number_for(words::COMMAND, word));
     }
     if MOST_NUMBER < number.size {
         return 0;
     }
     telling::explain(page, number.size as u32)
-}
-
-fn put_help_of(page: &mut Page, command: u32) -> usize {
-    if command == words::EVERY_COMMAND {
-        return 0;
-    }
-    telling::help_of(page, command)
 }
 
 // A refusal of a text as a whole.

@@ -33,7 +33,9 @@ const LEFT_OVER: u32 = 16;
 // How many names are tried for a file that is being written.
 const MOST_PARTS: u16 = 65535;
 
-// The longest name of a file, less the most that is put behind it.
+// The most bytes that are put behind a name, and the longest name that they can be put behind.
+const MOST_BEHIND: usize = 10;
+
 const LONGEST_BASE: usize = 245;
 
 // Whether bytes are of a kind, or there are none.
@@ -130,19 +132,22 @@ pub fn may_replace(path: &[u8], kind: u32, force: bool, first: &[u8], second: &[
     false
 }
 
-// The name of a file that is being written: `.part` and a number behind the name that is meant, which is cut where it is too long for that.
+// The name of a file that is being written: `.part` and a number behind the name that is meant.
 fn put_part(page: &mut Page, path: &[u8], k: u16) -> usize {
-    let folder = paths::folder_length(path);
-    let held = writing::put(page, 0, parts::front(path, folder));
-    let base = writing::put(page, held, cut(parts::back(path, folder)));
-    telling::part_number(Line::empty(), words::UNFINISHED, k as u64).onto(page, base)
+    let length = writing::put(page, 0, cut(path));
+    telling::part_number(Line::empty(), words::UNFINISHED, k as u64).onto(page, length)
 }
 
-fn cut<'a>(base: &'a [u8]) -> &'a [u8] {
-    if base.len() <= LONGEST_BASE {
-        return base;
+// A path whose last name is so short that the most can be put behind it.
+fn cut<'a>(path: &'a [u8]) -> &'a [u8] {
+    let name = parts::back(path, paths::folder_length(path));
+    if name.len() <= LONGEST_BASE {
+        return path;
     }
-    parts::front(base, LONGEST_BASE)
+    if path.len() < MOST_BEHIND {
+        return path;
+    }
+    parts::front(path, path.len() - MOST_BEHIND)
 }
 
 // Makes a new file beside the one that is meant. The first of its names that is taken is told.

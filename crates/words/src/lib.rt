@@ -76,9 +76,6 @@ pub const STANDARD_INPUT: u32 = 24;
 
 pub const VERSION: u32 = 25;
 
-// No command has this number.
-pub const EVERY_COMMAND: u32 = 0;
-
 // The last command that the text on the tool's use tells of.
 pub const LAST_COMMAND: u32 = 7;
 
