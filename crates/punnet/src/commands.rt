@@ -11,12 +11,12 @@ use telling::trace;
 use writing::Line;
 use writing::Page;
 
-// What the tool ends with.
-pub const ACCEPTED: u8 = 0;
+// What the tool ends with, as a digit.
+pub const ACCEPTED: u8 = b'0';
 
-pub const REFUSED: u8 = 1;
+pub const REFUSED: u8 = b'1';
 
-pub const TROUBLE: u8 = 2;
+pub const TROUBLE: u8 = b'2';
 
 // Commands that show a page, by their numbers in the table of words.
 pub const WORDS: u32 = 6;
@@ -24,13 +24,13 @@ pub const WORDS: u32 = 6;
 pub const VERSION: u32 = 10;
 
 // What is wrong with the use of a command.
-pub const NO_COMMAND: u32 = 6;
+pub const NO_COMMAND: u32 = 26;
 
-pub const NO_TURNS: u32 = 7;
+pub const NO_TURNS: u32 = 27;
 
-const NO_HELP: u32 = 17;
+const NO_HELP: u32 = 31;
 
-const PAGE_LOST: u32 = 18;
+const PAGE_LOST: u32 = 32;
 
 // No answer has a higher number.
 const MOST_NUMBER: u64 = 999;
@@ -40,12 +40,6 @@ const MOST_PAGES: u8 = 64;
 
 // The refusal of too many turns.
 const MANY_TURNS: u8 = 34;
-
-// Tells how a command is used.
-pub fn usage(given: &[u8], number: u32) -> u8 {
-    files::complain(given, number);
-    TROUBLE
-}
 
 // Writes a page that is done, and answers the status.
 pub fn done(page: &Page, held: usize) -> u8 {
@@ -75,7 +69,7 @@ pub fn show(command: u32, word: &[u8]) -> u8 {
     let mut page = writing::page();
     let held = put(&mut page, command, word);
     if held == 0 {
-        return usage(word, NO_HELP);
+        return files::complain(word, NO_HELP);
     }
     done(&page, held)
 }
@@ -83,13 +77,11 @@ pub fn show(command: u32, word: &[u8]) -> u8 {
 fn put(page: &mut Page, command: u32, word: &[u8]) -> usize {
     match command {
         WORDS => telling::all_words(page),
-        VERSION => version().onto(page, 0),
+        VERSION => telling::part(Line::empty(), words::VERSION)
+            .end()
+            .onto(page, 0),
         _ => put_help(page, word),
     }
-}
-
-fn version() -> Line {
-    telling::part(Line::empty(), words::VERSION).end()
 }
 
 // What is told of all commands, of one, or of a number.

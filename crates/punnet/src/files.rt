@@ -1,4 +1,5 @@
 // Files that are read, and what is told of files and words that are wrong.
+use crate::commands::TROUBLE;
 use crate::paths;
 use crate::seen;
 use crate::seen::Seen;
@@ -20,11 +21,12 @@ pub fn tell(page: &Page, held: usize) {
     io::write_all(STDERR_FILENO, writing::held_on(page, held));
 }
 
-// Tells what is wrong with a word or a file that was given.
-pub fn complain(given: &[u8], number: u32) {
+// Tells what is wrong with a word or a file that was given, and answers the status.
+pub fn complain(given: &[u8], number: u32) -> u8 {
     let mut page = writing::page();
     let held = refusals::put_of_use(&mut page, given, number);
     tell(&page, held);
+    TROUBLE
 }
 
 // Tells which file, and what the system says of it.
@@ -51,19 +53,14 @@ pub fn look(path: &[u8]) -> Seen {
     seen::look_at(writing::held_in(&bytes, line.held))
 }
 
-// Opens a file for reading.
-fn open(path: &[u8]) -> i32 {
-    if paths::is_dash(path) {
-        return STDIN_FILENO;
-    }
-    os::open_read(path)
-}
-
 // Reads a file, as much of it as there is room for.
 pub fn read(path: &[u8], room: &mut [u8]) -> Contents
     ensures { λ r. ⌜ Counts (r .length) (now (room .exit)) ⌝ }
 {
-    let file = open(path);
+    let mut file = STDIN_FILENO;
+    if !paths::is_dash(path) {
+        file = os::open_read(path);
+    }
     if file < 0 {
         trouble(path);
         return Contents {

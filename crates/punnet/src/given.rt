@@ -1,4 +1,7 @@
 // What a command is given besides its text or image: events and turns.
+use crate::commands::ACCEPTED;
+use crate::commands::REFUSED;
+use crate::commands::TROUBLE;
 use crate::files;
 use crate::paths;
 use events::Event;
@@ -33,13 +36,7 @@ type Room = [u8; ROOM];
 // Room for more events than a run takes, and for any other file.
 pub type Buffer = [u8; 65536];
 
-const LONG_FILE: u32 = 8;
-
-const ACCEPTED: u8 = 0;
-
-const REFUSED: u8 = 1;
-
-const TROUBLE: u8 = 2;
+const LONG_FILE: u32 = 28;
 
 const BAD_SCRIPT: u8 = 32;
 
@@ -76,14 +73,9 @@ fn no_events(status: u8) -> Given {
     Given { length: 0, status }
 }
 
-// No events are meant by no name, nor by `-`.
-fn is_no_file(path: &[u8]) -> bool {
-    (path.len() == 0) | paths::is_dash(path)
-}
-
-// Reads the events that a run is given.
+// Reads the events that a run is given; no name and `-` mean none.
 pub fn events(path: &[u8], bytes: &mut Buffer) -> Given {
-    if is_no_file(path) {
+    if (path.len() == 0) | paths::is_dash(path) {
         return no_events(ACCEPTED);
     }
     script(path, bytes)

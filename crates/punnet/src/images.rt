@@ -38,7 +38,7 @@ fn check(path: &[u8], image: &[u8]) -> u8 {
 pub fn run_command(path: &[u8], events: &[u8], word: &[u8], to: &[u8], force: bool) -> u8 {
     let turns = given::turns(word);
     if !turns.is_number {
-        return commands::usage(word, commands::NO_TURNS);
+        return files::complain(word, commands::NO_TURNS);
     }
     if given::MOST_TURNS < turns.count {
         return commands::refuse_turns(word);

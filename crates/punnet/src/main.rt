@@ -14,8 +14,6 @@ use arguments::FORCE;
 use arguments::LONG_HELP;
 use arguments::NO_OPTION;
 use arguments::SHORT_HELP;
-use commands::ACCEPTED;
-use commands::REFUSED;
 use commands::VERSION;
 use commands::WORDS;
 
@@ -34,21 +32,6 @@ const RUN: u32 = 4;
 const EVENTS: u32 = 5;
 
 const HELP: u32 = 7;
-
-// What is wrong with the arguments of the last ones.
-const WANTS_NOTHING: u32 = 19;
-
-const WANTS_SUBJECT: u32 = 20;
-
-fn digit(status: u8) -> u8 {
-    if status == ACCEPTED {
-        return b'0';
-    }
-    if status == REFUSED {
-        return b'1';
-    }
-    b'2'
-}
 
 // Whether a command takes so many arguments, with the program's name and its own among them.
 fn takes(command: u32, count: usize) -> bool {
@@ -69,17 +52,6 @@ fn is_writing(command: u32) -> bool {
     (command == TRANSLATE) | (command == RUN) | (command == EVENTS)
 }
 
-// The words on the arguments of a command.
-fn usage_of(command: u32) -> u32 {
-    if command <= EVENTS {
-        return command;
-    }
-    if (command == WORDS) | (command == VERSION) {
-        return WANTS_NOTHING;
-    }
-    WANTS_SUBJECT
-}
-
 // Does what a command says with its arguments.
 fn work(command: u32, force: bool, a: &[u8], b: &[u8], c: &[u8], d: &[u8]) -> u8 {
     match command {
@@ -98,10 +70,10 @@ fn with_arguments(command: u32, force: bool) -> u8 {
     let mut second = io::buffer();
     let mut third = io::buffer();
     let mut fourth = io::buffer();
-    let a = arguments::argument_behind(force, 2, &mut first);
-    let b = arguments::argument_behind(force, 3, &mut second);
-    let c = arguments::argument_behind(force, 4, &mut third);
-    let d = arguments::argument_behind(force, 5, &mut fourth);
+    let a = arguments::argument_at(force, 2, 3, &mut first);
+    let b = arguments::argument_at(force, 3, 4, &mut second);
+    let c = arguments::argument_at(force, 4, 5, &mut third);
+    let d = arguments::argument_at(force, 5, 6, &mut fourth);
     work(
         command,
         force,
@@ -115,7 +87,7 @@ fn with_arguments(command: u32, force: bool) -> u8 {
 // A command with so many arguments, its `-f` not counted.
 fn counted(command: u32, name: &[u8], count: usize, force: bool) -> u8 {
     if !takes(command, count) {
-        return commands::usage(name, usage_of(command));
+        return files::complain(name, command);
     }
     with_arguments(command, force)
 }
@@ -126,7 +98,7 @@ fn with_option(command: u32, name: &[u8], count: usize, option: u32) -> u8 {
         return commands::show(HELP, name);
     }
     if option == NO_OPTION {
-        return commands::usage(name, NO_OPTION);
+        return files::complain(name, NO_OPTION);
     }
     if (option == FORCE) & is_writing(command) {
         return counted(command, name, one_less(count), true);
@@ -144,7 +116,7 @@ fn one_less(count: usize) -> usize {
 fn command(name: &[u8], count: usize) -> u8 {
     let command = words::number_for(words::COMMAND, name);
     if (command == 0) | (command == FORCE) {
-        return commands::usage(name, commands::NO_COMMAND);
+        return files::complain(name, commands::NO_COMMAND);
     }
     with_option(command, name, count, arguments::option())
 }
@@ -157,5 +129,5 @@ fn start() -> u8 {
 
 fn main() {
     let status = start();
-    io::write_all(STATUS, &[digit(status)]);
+    io::write_all(STATUS, &[status]);
 }

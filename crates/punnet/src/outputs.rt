@@ -17,18 +17,18 @@ struct Part {
 }
 
 // The kinds of file that are written, by the words for a file that holds something else.
-pub const IMAGE: u32 = 11;
+pub const IMAGE: u32 = 23;
 
-pub const RECORDS: u32 = 12;
+pub const RECORDS: u32 = 24;
 
-pub const EVENTS: u32 = 13;
+pub const EVENTS: u32 = 25;
 
 // What else is wrong with a file that is to be written.
-const SOURCE: u32 = 9;
+const SOURCE: u32 = 21;
 
-const NOT_PLAIN: u32 = 10;
+const NOT_PLAIN: u32 = 22;
 
-const LEFT_OVER: u32 = 16;
+const LEFT_OVER: u32 = 30;
 
 // How many names are tried for a file that is being written.
 const MOST_PARTS: u16 = 65535;

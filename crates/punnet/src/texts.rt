@@ -27,15 +27,10 @@ fn refuse_lines(path: &[u8], text: &[u8], faults: &[u8]) -> u8 {
     REFUSED
 }
 
-// Whether a word is made of digits.
-fn is_count(word: &[u8]) -> bool {
-    let number = scripts::digits(word);
-    number.fault != scripts::BAD_FORM
-}
-
 // try TEXT [EVENTS] [TURNS]: a lone word of digits behind the text is the turns.
 pub fn try_command(path: &[u8], events: &[u8], turns: &[u8]) -> u8 {
-    if (turns.len() == 0) & is_count(events) {
+    let number = scripts::digits(events);
+    if (turns.len() == 0) & (number.fault != scripts::BAD_FORM) {
         return try_turns(path, turns, events);
     }
     try_turns(path, events, turns)
@@ -44,7 +39,7 @@ pub fn try_command(path: &[u8], events: &[u8], turns: &[u8]) -> u8 {
 fn try_turns(path: &[u8], events: &[u8], word: &[u8]) -> u8 {
     let turns = given::turns(word);
     if !turns.is_number {
-        return commands::usage(word, commands::NO_TURNS);
+        return files::complain(word, commands::NO_TURNS);
     }
     if given::MOST_TURNS < turns.count {
         return commands::refuse_turns(word);

@@ -90,7 +90,7 @@ const ANSWER_SIZE: usize = 1518;
 
 const HINT_SIZE: usize = 2366;
 
-const USE_SIZE: usize = 1053;
+const USE_SIZE: usize = 1149;
 
 const HELP_SIZE: usize = 1634;
 
@@ -104,7 +104,7 @@ const FIRST_COMMAND: usize = HELP + 68;
 pub const SIZE: usize = HELP + HELP_SIZE;
 
 // The number of lines, and the bytes of the longest with its end.
-const LINE_COUNT: usize = 173;
+const LINE_COUNT: usize = 176;
 
 pub const LONGEST: usize = 76;
 
@@ -277,20 +277,23 @@ usage 2: wants [-f] TEXT IMAGE
 usage 3: wants IMAGE
 usage 4: wants [-f] IMAGE EVENTS TURNS [RECORDS]
 usage 5: wants [-f] SCRIPT EVENTS
-usage 6: no such command; punnet help lists them
-usage 7: not a number of turns
-usage 8: longer than a script may be, 262,143 bytes
-usage 9: the file that is read; give another name to write to
-usage 10: not a plain file, and so not written
-usage 11: holds something else than an image; -f writes over it
-usage 12: holds something else than records; -f writes over it
-usage 13: holds something else than events as bytes; -f writes over it
-usage 15: no such option; for a file of that name put ./ in front
-usage 16: left from a write that did not end; look at it, then remove it
-usage 17: no command and no number; see punnet help and punnet words
-usage 18: written, but what is told of it is not
-usage 19: wants nothing
-usage 20: wants [COMMAND or NUMBER]
+usage 6: wants nothing
+usage 7: wants [COMMAND or NUMBER]
+usage 8: wants [COMMAND or NUMBER]
+usage 9: wants [COMMAND or NUMBER]
+usage 10: wants nothing
+usage 21: the file that is read; give another name to write to
+usage 22: not a plain file, and so not written
+usage 23: holds something else than an image; -f writes over it
+usage 24: holds something else than records; -f writes over it
+usage 25: holds something else than events as bytes; -f writes over it
+usage 26: no such command; punnet help lists them
+usage 27: not a number of turns
+usage 28: longer than a script may be, 262,143 bytes
+usage 29: no such option; for a file of that name put ./ in front
+usage 30: left from a write that did not end; look at it, then remove it
+usage 31: no command and no number; see punnet help and punnet words
+usage 32: written, but what is told of it is not
 ";
 
 const HELP_TEXT: [u8; HELP_SIZE] =
