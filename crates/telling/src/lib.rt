@@ -36,11 +36,12 @@ const MOST_SHOWN: usize = 100;
 const MOST_COUNTED: usize = 4294967296;
 
 // A byte of a file or of a name: one that is not plain is shown by its two hexadecimal digits.
-fn plain(line: Line, b: u8) -> Line {
+fn plain(mut line: Line, b: u8) -> Line {
     if (b' ' <= b) & (b <= b'~') {
         return line.byte(b);
     }
-    part(line, words::ESCAPE).hex(b)
+    line = part(line, words::ESCAPE);
+    line.hex(b)
 }
 
 // A line of a file, as much of it as is shown.
@@ -58,7 +59,9 @@ pub fn shown(mut line: Line, bytes: &[u8]) -> Line {
 pub fn name(page: &mut Page, before: usize, path: &[u8]) -> usize {
     let mut held = before;
     for i in 0..path.len() {
-        held = plain(Line::empty(), path[i]).onto(page, held);
+        let mut line = Line::empty();
+        line = plain(line, path[i]);
+        held = line.onto(page, held);
     }
     held
 }
@@ -99,8 +102,9 @@ pub fn part(line: Line, n: u32) -> Line {
 }
 
 // Such a part, and a number.
-pub fn part_number(line: Line, n: u32, value: u64) -> Line {
-    part(line, n).number(value)
+pub fn part_number(mut line: Line, n: u32, value: u64) -> Line {
+    line = part(line, n);
+    line.number(value)
 }
 
 // The bytes of the table of words from one place to before another.
@@ -135,21 +139,26 @@ pub fn help_of(page: &mut Page, command: u32) -> usize {
 
 // What a number of an answer means: as a refusal, as an error and as an end.
 pub fn explain(page: &mut Page, number: u32) -> usize {
-    let mut line = explained(Line::empty(), words::REFUSAL, number);
+    let mut line = Line::empty();
+    line = explained(line, words::REFUSAL, number);
     line = explained(line, words::ERROR, number);
-    explained(line, words::END, number).onto(page, 0)
+    line = explained(line, words::END, number);
+    line.onto(page, 0)
 }
 
 // The line for a number of a kind, if there is one, and an example below it; an end needs none.
-fn explained(line: Line, kind: u8, number: u32) -> Line {
+fn explained(mut line: Line, kind: u8, number: u32) -> Line {
     if words::line_for(kind, number) == words::SIZE {
         return line;
     }
-    let told = words(line, kind, number).end();
+    line = words(line, kind, number);
+    line = line.end();
     if kind == words::END {
-        return told;
+        return line;
     }
-    meaning(told.spaces(4), words::SAMPLE, number).end()
+    line = line.spaces(4);
+    line = meaning(line, words::SAMPLE, number);
+    line.end()
 }
 
 // One more and one less, as far as turns, events, records and lines go.

@@ -18,33 +18,46 @@ fn nowhere() -> Line {
 
 // The same where a line and a column are meant: `:line:column: `.
 fn place(line: usize, column: usize) -> Line {
-    let told = Line::empty().byte(b':').number(line as u64);
-    crate::part(told.byte(b':').number(column as u64), words::COLON)
+    let mut told = Line::empty();
+    told = told.byte(b':');
+    told = told.number(line as u64);
+    told = told.byte(b':');
+    told = told.number(column as u64);
+    crate::part(told, words::COLON)
 }
 
 // The words of a refusal, to the end of the line.
-fn refusal(line: Line, number: u8) -> Line {
-    crate::words(line, words::REFUSAL, number as u32).end()
+fn refusal(mut line: Line, number: u8) -> Line {
+    line = crate::words(line, words::REFUSAL, number as u32);
+    line.end()
 }
 
-// A hint, where there is one. The name or the edition that it speaks of ends it, or the name begins it.
-fn hinted(line: Line, hint: Hint) -> Line {
+// A hint, where there is one; some begin with a name.
+fn hinted(mut line: Line, hint: Hint) -> Line {
     if hint.number == 0 {
         return line;
     }
-    let mut told = line.spaces(SET_IN);
-    if hint.number == given::EDITION {
-        told = crate::meaning(told, words::HINT, hint.number).byte(b' ');
-        return told.number(hint.name as u64).end();
-    }
-    if hint.number == hints::UNDECLARED {
-        told = crate::meaning(told, words::HINT, hint.number).byte(b' ');
-        return crate::key(told, hint.name).end();
-    }
+    line = line.spaces(SET_IN);
     if hints::begins_with_name(hint.number) {
-        told = crate::key(told, hint.name).byte(b' ');
+        line = crate::key(line, hint.name);
+        line = line.byte(b' ');
     }
-    crate::meaning(told, words::HINT, hint.number).end()
+    line = crate::meaning(line, words::HINT, hint.number);
+    line = behind(line, hint);
+    line.end()
+}
+
+// The name or the edition that a hint ends with.
+fn behind(mut line: Line, hint: Hint) -> Line {
+    if hint.number == hints::UNDECLARED {
+        line = line.byte(b' ');
+        return crate::key(line, hint.name);
+    }
+    if hint.number == given::EDITION {
+        line = line.byte(b' ');
+        return line.number(hint.name as u64);
+    }
+    line
 }
 
 // A file's name, and a line behind it, behind what the page holds.
@@ -55,8 +68,13 @@ pub fn put_behind(page: &mut Page, before: usize, path: &[u8], line: Line) -> us
 
 // What is said of a line by words from a place of their table on, with the line itself and a hint.
 fn shown(wrong: &[u8], line: usize, start: usize, hint: Hint) -> Line {
-    let told = crate::line_of_words(place(line, hint.column), start).end();
-    hinted(crate::shown(told.spaces(SET_IN), wrong).end(), hint)
+    let mut told = place(line, hint.column);
+    told = crate::line_of_words(told, start);
+    told = told.end();
+    told = told.spaces(SET_IN);
+    told = crate::shown(told, wrong);
+    told = told.end();
+    hinted(told, hint)
 }
 
 // The same by the words of a refusal.
@@ -67,7 +85,9 @@ fn refused(wrong: &[u8], line: usize, number: u8, hint: Hint) -> Line {
 
 // A refusal of a whole file.
 pub fn put(page: &mut Page, path: &[u8], number: u8) -> usize {
-    put_behind(page, 0, path, refusal(nowhere(), number))
+    let mut told = nowhere();
+    told = refusal(told, number);
+    put_behind(page, 0, path, told)
 }
 
 // A refusal of a line of a text.
@@ -102,15 +122,20 @@ fn counted(count: usize, fault: u8) -> usize {
 
 // How many lines are faulty, where that is more than one; else nothing.
 fn counted_lines(count: usize) -> Line {
-    let line = Line::empty();
+    let mut line = Line::empty();
     if count < 2 {
         return line;
     }
-    let told = line.number(count as u64);
+    line = line.number(count as u64);
+    line = crate::part(line, said_of_count(count));
+    line.end()
+}
+
+fn said_of_count(count: usize) -> u32 {
     if MOST_SHOWN < count {
-        return crate::part(told, words::FIRST_TEN).end();
+        return words::FIRST_TEN;
     }
-    crate::part(told, words::FAULTY).end()
+    words::FAULTY
 }
 
 // The first faulty lines of a text, by the fault of each of its lines, 0 where it has none; and how many there are.
@@ -128,7 +153,10 @@ pub fn put_faults(page: &mut Page, path: &[u8], text: &[u8], faults: &[u8]) -> u
 // A refusal of an image, with what was given in its place.
 pub fn put_of_image(page: &mut Page, path: &[u8], image: &[u8], number: u8) -> usize {
     let hint = hints::at(0, given::instead(image, number), image::edition(image));
-    put_behind(page, 0, path, hinted(refusal(nowhere(), number), hint))
+    let mut told = nowhere();
+    told = refusal(told, number);
+    told = hinted(told, hint);
+    put_behind(page, 0, path, told)
 }
 
 // A refusal of an event that was given as bytes, and why it is bad.
@@ -144,8 +172,11 @@ pub fn put_of_event(
 
 fn of_event(events: &[u8], index: usize, number: u8) -> Line {
     let hint = hints::at(0, given::fault(events, index), 0);
-    let told = crate::part_number(nowhere(), words::EVENT, index as u64);
-    hinted(refusal(crate::part(told, words::COLON), number), hint)
+    let mut told = nowhere();
+    told = crate::part_number(told, words::EVENT, index as u64);
+    told = crate::part(told, words::COLON);
+    told = refusal(told, number);
+    hinted(told, hint)
 }
 
 // A refusal of an event that was given on a line of a script, and why it is bad.
@@ -165,8 +196,10 @@ pub fn put_of_script_event(
 
 // A refusal of the turns.
 pub fn put_of_turns(page: &mut Page, turns: &[u8], number: u8) -> usize {
-    let told = crate::part(Line::empty(), words::TURNS_ASKED);
-    put_behind(page, 0, turns, refusal(told, number))
+    let mut told = Line::empty();
+    told = crate::part(told, words::TURNS_ASKED);
+    told = refusal(told, number);
+    put_behind(page, 0, turns, told)
 }
 
 // A fault of a script, with its line.
@@ -188,13 +221,16 @@ fn of_script(wrong: &[u8], line: usize, fault: u8) -> Line {
 // What is wrong with a word or a file that was given.
 pub fn put_of_use(page: &mut Page, given: &[u8], number: u32) -> usize {
     let held = put_trouble(page, given);
-    crate::meaning(nowhere(), words::USAGE, number)
-        .end()
-        .onto(page, held)
+    let mut told = nowhere();
+    told = crate::meaning(told, words::USAGE, number);
+    told = told.end();
+    told.onto(page, held)
 }
 
 // The tool's name and a file's, for what the system says of it.
 pub fn put_trouble(page: &mut Page, path: &[u8]) -> usize {
-    let held = crate::part(Line::empty(), words::PUNNET).onto(page, 0);
+    let mut told = Line::empty();
+    told = crate::part(told, words::PUNNET);
+    let held = told.onto(page, 0);
     crate::name(page, held, path)
 }

@@ -20,18 +20,23 @@ pub fn name(line: Line, image: &[u8], number: u8) -> Line {
     crate::key(line, listing::variable_key(image, number))
 }
 
-fn value(line: Line, image: &[u8], number: u8, value: i32) -> Line {
-    name(line, image, number).byte(b'=').signed(value)
+fn value(mut line: Line, image: &[u8], number: u8, value: i32) -> Line {
+    line = name(line, image, number);
+    line = line.byte(b'=');
+    line.signed(value)
 }
 
 // The position, and whether the axis moves.
 fn position(position: i32, motion: u8, value: i32) -> Line {
-    let mut line = crate::part(Line::empty(), words::POSITION).signed(position);
+    let mut line = Line::empty();
+    line = crate::part(line, words::POSITION);
+    line = line.signed(position);
     line = crate::meaning(line, words::MOTION, motion as u32);
     if motion == STILL {
         return line.end();
     }
-    line.signed(value).end()
+    line = line.signed(value);
+    line.end()
 }
 
 // The value of a variable; 0 where there is none.
@@ -46,12 +51,8 @@ fn value_of(values: &[i32], number: usize) -> i32 {
 fn outputs(mut line: Line, image: &[u8], variables: &[i32]) -> Line {
     line = crate::part(line, words::OUTPUTS);
     for number in FIRST_OUTPUT..LAST_OUTPUT + 1 {
-        line = value(
-            line.byte(b' '),
-            image,
-            number as u8,
-            value_of(variables, number),
-        );
+        line = line.byte(b' ');
+        line = value(line, image, number as u8, value_of(variables, number));
     }
     line.end()
 }
@@ -66,7 +67,8 @@ fn change(image: &[u8], number: u8, now: i32, start: i32) -> Line {
     line = value(line, image, number, now);
     line = crate::part(line, words::START);
     line = line.signed(start);
-    line.byte(b')').end()
+    line = line.byte(b')');
+    line.end()
 }
 
 // Every such variable.
@@ -80,9 +82,13 @@ fn put_changes(page: &mut Page, before: usize, image: &[u8], now: &[i32], start:
 
 // Why a run ended, and after how many turns and records.
 pub fn put_end(page: &mut Page, held: usize, reason: u8, turns: u64, records: usize) -> usize {
-    let mut line = crate::words(Line::empty(), words::END, reason as u32).end();
-    line = crate::part_number(line, words::TURNS, turns).end();
-    line = crate::part_number(line, words::RECORDS, records as u64).end();
+    let mut line = Line::empty();
+    line = crate::words(line, words::END, reason as u32);
+    line = line.end();
+    line = crate::part_number(line, words::TURNS, turns);
+    line = line.end();
+    line = crate::part_number(line, words::RECORDS, records as u64);
+    line = line.end();
     line.onto(page, held)
 }
 
@@ -96,7 +102,8 @@ pub fn put(
     variables: [i32; 64],
     start: [i32; 64],
 ) -> usize {
-    let line = position(variables[POSITION], motion, value);
-    let at = outputs(line, image, &variables).onto(page, held);
+    let mut line = position(variables[POSITION], motion, value);
+    line = outputs(line, image, &variables);
+    let at = line.onto(page, held);
     put_changes(page, at, image, &variables, &start)
 }

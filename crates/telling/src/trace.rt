@@ -81,7 +81,8 @@ fn turns_of(turn: u64, last: u64) -> Line {
     if used < BEFORE_DASH {
         line = line.number_to(turn, BEFORE_DASH - used);
     }
-    line.byte(b'-').number(last)
+    line = line.byte(b'-');
+    line.number(last)
 }
 
 // An event in words: its kind, its number where it has one, and its value unless a move arrives.
@@ -91,27 +92,34 @@ fn event_in_words(mut line: Line, event: Event) -> Line {
         return line;
     }
     if event.number != 0 {
-        line = line.byte(b' ').number(event.number as u64);
+        line = line.byte(b' ');
+        line = line.number(event.number as u64);
     }
-    crate::part(line, words::EQUALS).signed(event.value)
+    line = crate::part(line, words::EQUALS);
+    line.signed(event.value)
 }
 
 // The line of an event.
 fn event_line(event: Event) -> Line {
-    let mut line = Line::empty().number_to(event.turn as u64, TURN_WIDTH);
+    let mut line = Line::empty();
+    line = line.number_to(event.turn as u64, TURN_WIDTH);
     line = line.spaces(GAP + LINE_WIDTH + GAP);
-    event_in_words(crate::part(line, words::EVENT_ROW), event).end()
+    line = crate::part(line, words::EVENT_ROW);
+    line = event_in_words(line, event);
+    line.end()
 }
 
 // The output of a record, or the variable that was printed.
-fn source(line: Line, image: &[u8], kind: u8, number: u8) -> Line {
+fn source(mut line: Line, image: &[u8], kind: u8, number: u8) -> Line {
     if number == 0 {
         return line;
     }
     if kind == Record::PRINTED {
-        return crate::part(state::name(line, image, number), words::EQUALS);
+        line = state::name(line, image, number);
+        return crate::part(line, words::EQUALS);
     }
-    crate::part(line.number(number as u64), words::EQUALS)
+    line = line.number(number as u64);
+    crate::part(line, words::EQUALS)
 }
 
 // A record in words: an error, or its kind, what it is of, and its value.
@@ -120,16 +128,19 @@ fn record_in_words(mut line: Line, image: &[u8], record: Event) -> Line {
         return crate::words(line, words::ERROR, numbers::digits(record.value));
     }
     line = crate::meaning(line, words::KIND_OF_RECORD, record.kind as u32);
-    source(line, image, record.kind, record.number).signed(record.value)
+    line = source(line, image, record.kind, record.number);
+    line.signed(record.value)
 }
 
 // The statement of a turn or of a stay at a place of a text, with its turns and its line.
 fn row(text: &[u8], place: u16, turn: usize, end: usize) -> Line {
     let found = translation::line_of(text, place);
     let statement = parts::uncommented(parts::between(text, found.start, found.end));
-    let mut line = turns_of(turn as u64, crate::one_less(end) as u64).spaces(GAP);
+    let mut line = turns_of(turn as u64, crate::one_less(end) as u64);
+    line = line.spaces(GAP);
     line = line.number_to(found.line as u64, LINE_WIDTH);
-    line.spaces(GAP).bytes(statement)
+    line = line.spaces(GAP);
+    line.bytes(statement)
 }
 
 // What a turn recorded, in its column.
@@ -137,7 +148,8 @@ fn recorded(mut line: Line, image: &[u8], record: Event) -> Line {
     if line.held < RECORD_COLUMN {
         line = line.spaces(RECORD_COLUMN - line.held);
     }
-    record_in_words(line.spaces(GAP), image, record)
+    line = line.spaces(GAP);
+    record_in_words(line, image, record)
 }
 
 // An event of the turn that is next.
@@ -155,21 +167,21 @@ fn put_turn(
     page: &mut Page,
     mark: Mark,
     end: usize,
-    row: Line,
+    mut line: Line,
     image: &[u8],
     records: &[u8],
 ) -> Mark {
-    let mut line = row;
     let mut record = mark.record;
     if turn_of(records, record) == mark.turn {
         line = recorded(line, image, entry(records, record));
         record = crate::one_more(record);
     }
+    line = line.end();
     Mark {
         turn: end,
         event: mark.event,
         record,
-        held: line.end().onto(page, mark.held),
+        held: line.onto(page, mark.held),
     }
 }
 
@@ -217,13 +229,14 @@ pub fn put(
 
 // The first page of a run begins with a header, and nothing is told yet.
 pub fn begun(page: &mut Page) -> Mark {
+    let mut line = Line::empty();
+    line = crate::part(line, words::HEADER);
+    line = line.end();
     Mark {
         turn: 0,
         event: 0,
         record: 0,
-        held: crate::part(Line::empty(), words::HEADER)
-            .end()
-            .onto(page, 0),
+        held: line.onto(page, 0),
     }
 }
 
@@ -248,6 +261,9 @@ pub fn put_records(page: &mut Page, first: usize, image: &[u8], records: &[u8]) 
 }
 
 fn record_line(image: &[u8], record: Event) -> Line {
-    let line = Line::empty().number_to(record.turn as u64, TURN_WIDTH);
-    record_in_words(line.spaces(GAP), image, record).end()
+    let mut line = Line::empty();
+    line = line.number_to(record.turn as u64, TURN_WIDTH);
+    line = line.spaces(GAP);
+    line = record_in_words(line, image, record);
+    line.end()
 }
