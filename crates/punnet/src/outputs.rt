@@ -60,7 +60,7 @@ fn holds(path: &[u8], kind: u32) -> bool {
     let contents = files::fill(file, &mut room);
     libc::close(file);
     let length = contents.length;
-    are_of_kind(&room[..length], kind)
+    !contents.failed & are_of_kind(&room[..length], kind)
 }
 
 // Whether this user may write a plain file; else it is told.
