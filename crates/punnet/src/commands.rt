@@ -4,7 +4,6 @@ use crate::outputs;
 use crate::paths;
 use bench::Ran;
 use libc::STDOUT_FILENO;
-use telling::Mark;
 use telling::refusals;
 use telling::state;
 use telling::trace;
@@ -32,11 +31,11 @@ const NO_HELP: u32 = 31;
 
 const PAGE_LOST: u32 = 32;
 
-// No answer has a higher number.
-const MOST_NUMBER: u64 = 999;
+// The numbers of answers are below this.
+const NO_NUMBER: u32 = 1000;
 
-// More pages than the longest run fills.
-const MOST_PAGES: u8 = 64;
+// More lines than the longest run has.
+const MOST_LINES: u16 = 65535;
 
 // The refusal of too many turns.
 const MANY_TURNS: u8 = 34;
@@ -84,43 +83,41 @@ fn put(page: &mut Page, command: u32, word: &[u8]) -> usize {
     }
 }
 
-// What is told of all commands, of one, or of a number.
+// What is told of all commands, of a number, or of one command.
 fn put_help(page: &mut Page, word: &[u8]) -> usize {
     if word.len() == 0 {
         return telling::help(page);
     }
+    let number = number_in(word);
+    if number != NO_NUMBER {
+        return telling::explain(page, number);
+    }
+    telling::help_of(page, words::number_for(words::COMMAND, word))
+}
+
+// The number of an answer that a word is.
+fn number_in(word: &[u8]) -> u32 {
     let number = scripts::digits(word);
     if number.fault != scripts::NO_FAULT {
-        return telling::help_of(page, words::number_for(words::COMMAND, word));
+        return NO_NUMBER;
     }
-    if MOST_NUMBER < number.size {
-        return 0;
+    if NO_NUMBER as u64 <= number.size {
+        return NO_NUMBER;
     }
-    telling::explain(page, number.size as u32)
+    number.size as u32
 }
 
-// A refusal of a text as a whole.
-pub fn refuse(path: &[u8], number: u8) -> u8 {
+// Tells a refusal of what was given.
+pub fn refuse(given: &[u8], told: Line) -> u8 {
     let mut page = writing::page();
-    let held = refusals::put(&mut page, path, number);
-    files::tell(&page, held);
-    REFUSED
-}
-
-// A refusal of an image.
-pub fn refuse_image(path: &[u8], image: &[u8], number: u8) -> u8 {
-    let mut page = writing::page();
-    let held = refusals::put_of_image(&mut page, path, image, number);
+    let held = refusals::put_behind(&mut page, 0, given, told);
     files::tell(&page, held);
     REFUSED
 }
 
 // A refusal of the turns.
 pub fn refuse_turns(word: &[u8]) -> u8 {
-    let mut page = writing::page();
-    let held = refusals::put_of_turns(&mut page, word, MANY_TURNS);
-    files::tell(&page, held);
-    REFUSED
+    refuse(word, refusals::of_turns(MANY_TURNS))
 }
 
 // The values of the variables before the first turn: the state of a run of no turns.
@@ -155,64 +152,48 @@ pub fn counts(image: &[u8]) -> Line {
     line.end()
 }
 
-// Tells how a run ended, behind what a page holds.
-fn tell_end(to: &[u8], page: &mut Page, before: usize, image: &[u8], ran: Ran) -> u8 {
+// Tells how a run ended. Its records may be kept in a file.
+pub fn tell_end(to: &[u8], image: &[u8], ran: Ran) -> u8 {
     let end = ran.state;
     let values = end.variables;
-    let mut held = state::put_end(page, before, ran.reason, ran.turns, ran.records);
+    let start = start_values(image);
+    let mut page = writing::page();
+    let mut held = state::put_end(&mut page, 0, ran.reason, ran.turns, ran.records);
     held = state::put(
-        page,
+        &mut page,
         held,
         image,
         end.motion,
         end.value,
-        values,
-        start_values(image),
+        &values,
+        &start,
     );
-    done_with(to, page, held)
+    done_with(to, &page, held)
 }
 
-// A page of a run from a mark on: its turns; or only its records, by their numbers as turns, where no places are given.
-fn put_some(
-    page: &mut Page,
-    mark: Mark,
-    text: &[u8],
-    image: &[u8],
-    events: &[u8],
-    records: &[u8],
-    visits: &[u8],
-    turns: usize,
-) -> Mark {
-    if visits.len() != 0 {
-        return trace::put(page, mark, text, image, events, records, visits, turns);
-    }
-    let mut told = trace::put_records(page, mark.turn, image, records);
-    told.turn = told.record;
-    told
-}
-
-// Tells a run page by page, and how it ended. Its records may be kept in a file.
+// Tells a run page by page: its turns with their lines, or where they have none only its records.
 pub fn tell_run(
     to: &[u8],
     text: &[u8],
     image: &[u8],
     events: &[u8],
     records: &[u8],
-    visits: &[u8],
+    lines: &[u8],
     turns: usize,
-    ran: Ran,
 ) -> u8 {
     let mut page = writing::page();
-    let mut mark = trace::begun(&mut page);
-    for _ in 0..MOST_PAGES {
-        mark = put_some(&mut page, mark, text, image, events, records, visits, turns);
+    let mut mark = trace::begun(&mut page, lines);
+    for _ in 0..MOST_LINES {
         if turns <= mark.turn {
             break;
         }
-        if done_with(to, &page, mark.held) != ACCEPTED {
-            return TROUBLE;
+        if trace::FULL <= mark.held {
+            if done_with(to, &page, mark.held) != ACCEPTED {
+                return TROUBLE;
+            }
+            mark.held = 0;
         }
-        mark.held = 0;
+        mark = trace::put_next(&mut page, mark, text, image, events, records, lines, turns);
     }
-    tell_end(to, &mut page, mark.held, image, ran)
+    done_with(to, &page, mark.held)
 }

@@ -1,11 +1,12 @@
 // What a command is given besides its text or image: events and turns.
+use crate::commands;
 use crate::commands::ACCEPTED;
-use crate::commands::REFUSED;
 use crate::commands::TROUBLE;
 use crate::files;
 use crate::paths;
 use events::Event;
 use telling::refusals;
+use writing::Line;
 
 // How many bytes the events of a file take, and the status where it cannot be used.
 pub struct Given {
@@ -104,27 +105,15 @@ fn of_room<'a>(room: &'a Room, length: usize) -> &'a [u8] {
 }
 
 fn of_file(path: &[u8], file: &[u8], bytes: &mut Buffer) -> Given {
-    if scripts::is_bytes(file) {
-        let length = copy(file, bytes);
-        return accepted(path, file, false, of_buffer(bytes, length));
+    let read = scripts::read(file, bytes);
+    if read.fault != scripts::NO_FAULT {
+        return refused(path, refusals::of_script(file, read.line, read.fault));
     }
-    let script = scripts::translate(file, bytes);
-    if script.fault != scripts::NO_FAULT {
-        return refuse_line(path, file, script.line, script.fault);
-    }
-    accepted(path, file, true, of_buffer(bytes, script.length))
-}
-
-// Tells a line that says no event.
-fn refuse_line(path: &[u8], file: &[u8], line: usize, fault: u8) -> Given {
-    let mut page = writing::page();
-    let held = refusals::put_of_script(&mut page, path, file, line, fault);
-    files::tell(&page, held);
-    no_events(REFUSED)
+    accepted(path, file, of_buffer(bytes, read.length))
 }
 
 // The events of a file, if a run takes them; else the refusal is told.
-fn accepted(path: &[u8], file: &[u8], is_script: bool, events: &[u8]) -> Given {
+fn accepted(path: &[u8], file: &[u8], events: &[u8]) -> Given {
     let refusal = refusal_of(events);
     if refusal.number == 0 {
         return Given {
@@ -132,38 +121,15 @@ fn accepted(path: &[u8], file: &[u8], is_script: bool, events: &[u8]) -> Given {
             status: ACCEPTED,
         };
     }
-    refuse(path, file, is_script, events, refusal);
-    no_events(REFUSED)
+    refused(
+        path,
+        refusals::of_events(file, events, refusal.number, refusal.index),
+    )
 }
 
-// Copies bytes, as many as there is room for.
-fn copy(from: &[u8], bytes: &mut Buffer) -> usize {
-    let mut i: usize = 0;
-    while i < from.len() {
-        if 65536 <= i {
-            return i;
-        }
-        bytes[i] = from[i];
-        i += 1;
-    }
-    i
-}
-
-// Tells a refusal of events: of one, with the line of a script or the number of an event in bytes; or of them all.
-fn refuse(path: &[u8], file: &[u8], is_script: bool, events: &[u8], refusal: Refusal) {
-    let number = refusal.number;
-    let index = refusal.index;
-    let mut page = writing::page();
-    let mut held: usize = 0;
-    if number != BAD_EVENT {
-        held = refusals::put(&mut page, path, number);
-    } else if is_script {
-        let line = scripts::line_of_event(file, index);
-        held = refusals::put_of_script_event(&mut page, path, file, line, events, index, number);
-    } else {
-        held = refusals::put_of_event(&mut page, path, events, index, number);
-    }
-    files::tell(&page, held);
+// No events, and a refusal is told.
+fn refused(path: &[u8], told: Line) -> Given {
+    no_events(commands::refuse(path, told))
 }
 
 // Whether bytes are events that a run takes.

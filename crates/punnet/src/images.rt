@@ -6,7 +6,7 @@ use crate::files;
 use crate::given;
 use crate::given::Buffer;
 use crate::outputs;
-use bench::Ran;
+use telling::refusals;
 
 // The records of a run, at the front of a buffer.
 pub fn of_records<'a>(buffer: &'a Buffer, count: usize) -> &'a [u8] {
@@ -29,7 +29,7 @@ pub fn check_command(path: &[u8]) -> u8 {
 fn check(path: &[u8], image: &[u8]) -> u8 {
     let checked = bench::check(image);
     if checked.number != 0 {
-        return commands::refuse_image(path, image, checked.number);
+        return commands::refuse(path, refusals::of_image(image, checked.number));
     }
     commands::tell_of(path, commands::counts(image), &image[..0])
 }
@@ -84,15 +84,19 @@ fn run_with(path: &[u8], image: &[u8], script: &[u8], turns: u64, to: &[u8]) -> 
     let mut room = io::large_buffer();
     let ran = bench::run(image, script, turns, &mut room);
     if ran.number != 0 {
-        return commands::refuse_image(path, image, ran.number);
+        return commands::refuse(path, refusals::of_image(image, ran.number));
     }
-    keep(to, image, of_records(&room, ran.records), ran)
+    let kept = keep(to, image, of_records(&room, ran.records), ran.records);
+    if kept != ACCEPTED {
+        return kept;
+    }
+    commands::tell_end(to, image, ran)
 }
 
-fn keep(to: &[u8], image: &[u8], records: &[u8], ran: Ran) -> u8 {
+fn keep(to: &[u8], image: &[u8], records: &[u8], count: usize) -> u8 {
     if !outputs::write(to, records) {
         return TROUBLE;
     }
     let none = &to[..0];
-    commands::tell_run(to, none, image, none, records, none, ran.records, ran)
+    commands::tell_run(to, none, image, none, records, none, count)
 }

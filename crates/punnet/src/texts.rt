@@ -7,22 +7,13 @@ use crate::files;
 use crate::given;
 use crate::images;
 use crate::outputs;
-use bench::Ran;
 use telling::refusals;
+use telling::trace;
 
-// A refusal of a text: of the whole, or of its lines.
+// Tells a refusal of a text: of the whole, or of its lines.
 fn refuse(path: &[u8], text: &[u8], line: usize, number: u8) -> u8 {
-    if line == 0 {
-        return commands::refuse(path, number);
-    }
-    let mut room = io::large_buffer();
-    let lines = names::line_faults(text, &mut room);
-    refuse_lines(path, text, given::of_buffer(&room, lines))
-}
-
-fn refuse_lines(path: &[u8], text: &[u8], faults: &[u8]) -> u8 {
     let mut page = writing::page();
-    let held = refusals::put_faults(&mut page, path, text, faults);
+    let held = refusals::put_of_text(&mut page, path, text, line, number);
     files::tell(&page, held);
     REFUSED
 }
@@ -80,30 +71,34 @@ fn try_with(path: &[u8], text: &[u8], events: &[u8], turns: u64) -> u8 {
         return refuse(path, text, translated.line, translated.number);
     }
     let ran = tried.ran;
-    tell(
+    let accepted = given::of_buffer(&image, translated.length);
+    let told = tell(
         text,
-        given::of_buffer(&image, translated.length),
+        accepted,
         events,
         images::of_records(&records, ran.records),
         turns,
-        ran,
-    )
+    );
+    if told != ACCEPTED {
+        return told;
+    }
+    commands::tell_end(&text[..0], accepted, ran)
 }
 
-// Tells a run turn by turn, and how it ended.
-fn tell(text: &[u8], image: &[u8], events: &[u8], records: &[u8], turns: u64, ran: Ran) -> u8 {
+// Tells a run turn by turn.
+fn tell(text: &[u8], image: &[u8], events: &[u8], records: &[u8], turns: u64) -> u8 {
     let mut room = io::large_buffer();
-    let mut visits = io::large_buffer();
-    let taken = tried::visit_text(text, &mut room, events, turns, &mut visits);
+    let mut lines = io::large_buffer();
+    let taken = tried::visit_text(text, &mut room, events, turns, &mut lines);
+    trace::put_lines(&mut lines, text, taken);
     commands::tell_run(
         &text[..0],
         text,
         image,
         events,
         records,
-        given::of_buffer(&visits, 65536),
+        given::of_buffer(&lines, 65536),
         taken,
-        ran,
     )
 }
 

@@ -287,7 +287,7 @@ fn keep(events: &mut [u8], length: usize, said: Said) -> usize {
 }
 
 // Turns a script into the bytes of its events.
-pub fn translate(text: &[u8], events: &mut [u8]) -> Script {
+fn translate(text: &[u8], events: &mut [u8]) -> Script {
     let mut kept: usize = 0;
     let mut line: usize = 1;
     let mut at: usize = 0;
@@ -307,6 +307,31 @@ pub fn translate(text: &[u8], events: &mut [u8]) -> Script {
     }
     Script {
         length: kept,
+        line: 0,
+        fault: NO_FAULT,
+    }
+}
+
+// Copies bytes, as many as there is room for.
+fn copy(from: &[u8], events: &mut [u8]) -> usize {
+    let mut i: usize = 0;
+    while i < from.len() {
+        if events.len() <= i {
+            return i;
+        }
+        numbers::write(events, i, 1, numbers::read(from, i, 1));
+        i += 1;
+    }
+    i
+}
+
+// The bytes of the events in a file, which holds them or is a script.
+pub fn read(file: &[u8], events: &mut [u8]) -> Script {
+    if !is_bytes(file) {
+        return translate(file, events);
+    }
+    Script {
+        length: copy(file, events),
         line: 0,
         fault: NO_FAULT,
     }

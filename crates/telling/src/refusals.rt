@@ -11,6 +11,9 @@ const MOST_SHOWN: usize = 10;
 // How far lines of files and hints are set in.
 const SET_IN: usize = 4;
 
+// The refusal of an event.
+const BAD_EVENT: u8 = 33;
+
 // What stands behind the name of a file where no line is meant.
 fn nowhere() -> Line {
     crate::part(Line::empty(), words::COLON)
@@ -84,10 +87,8 @@ fn refused(wrong: &[u8], line: usize, number: u8, hint: Hint) -> Line {
 }
 
 // A refusal of a whole file.
-pub fn put(page: &mut Page, path: &[u8], number: u8) -> usize {
-    let mut told = nowhere();
-    told = refusal(told, number);
-    put_behind(page, 0, path, told)
+pub fn of_whole(number: u8) -> Line {
+    refusal(nowhere(), number)
 }
 
 // A refusal of a line of a text.
@@ -139,7 +140,7 @@ fn said_of_count(count: usize) -> u32 {
 }
 
 // The first faulty lines of a text, by the fault of each of its lines, 0 where it has none; and how many there are.
-pub fn put_faults(page: &mut Page, path: &[u8], text: &[u8], faults: &[u8]) -> usize {
+fn put_faults(page: &mut Page, path: &[u8], text: &[u8], faults: &[u8]) -> usize {
     let mut held: usize = 0;
     let mut count: usize = 0;
     for i in 0..faults.len() {
@@ -150,69 +151,56 @@ pub fn put_faults(page: &mut Page, path: &[u8], text: &[u8], faults: &[u8]) -> u
     counted_lines(count).onto(page, held)
 }
 
+// A refusal of a text: of the whole, or of its lines.
+pub fn put_of_text(page: &mut Page, path: &[u8], text: &[u8], line: usize, number: u8) -> usize {
+    if line == 0 {
+        return put_behind(page, 0, path, of_whole(number));
+    }
+    let mut faults = writing::page();
+    let lines = names::line_faults(text, &mut faults);
+    put_faults(page, path, text, writing::held_on(&faults, lines))
+}
+
 // A refusal of an image, with what was given in its place.
-pub fn put_of_image(page: &mut Page, path: &[u8], image: &[u8], number: u8) -> usize {
+pub fn of_image(image: &[u8], number: u8) -> Line {
     let hint = hints::at(0, given::instead(image, number), image::edition(image));
-    let mut told = nowhere();
-    told = refusal(told, number);
-    told = hinted(told, hint);
-    put_behind(page, 0, path, told)
+    hinted(of_whole(number), hint)
 }
 
-// A refusal of an event that was given as bytes, and why it is bad.
-pub fn put_of_event(
-    page: &mut Page,
-    path: &[u8],
-    events: &[u8],
-    index: usize,
-    number: u8,
-) -> usize {
-    put_behind(page, 0, path, of_event(events, index, number))
+// A refusal of events, of them all or of one, that a file gives as bytes or on the lines of a script.
+pub fn of_events(file: &[u8], events: &[u8], number: u8, index: usize) -> Line {
+    if number != BAD_EVENT {
+        return of_whole(number);
+    }
+    if scripts::is_bytes(file) {
+        return of_event(events, index);
+    }
+    of_event_on(file, scripts::line_of_event(file, index), events, index)
 }
 
-fn of_event(events: &[u8], index: usize, number: u8) -> Line {
-    let hint = hints::at(0, given::fault(events, index), 0);
-    let mut told = nowhere();
-    told = crate::part_number(told, words::EVENT, index as u64);
+// A bad event by its number, and why it is bad.
+fn of_event(events: &[u8], index: usize) -> Line {
+    let mut told = crate::part_number(nowhere(), words::EVENT, index as u64);
     told = crate::part(told, words::COLON);
-    told = refusal(told, number);
-    hinted(told, hint)
+    told = refusal(told, BAD_EVENT);
+    hinted(told, hints::at(0, given::fault(events, index), 0))
 }
 
-// A refusal of an event that was given on a line of a script, and why it is bad.
-pub fn put_of_script_event(
-    page: &mut Page,
-    path: &[u8],
-    text: &[u8],
-    line: usize,
-    events: &[u8],
-    index: usize,
-    number: u8,
-) -> usize {
-    let wrong = parts::line(text, line);
+// A bad event on a line of a script, and why it is bad.
+fn of_event_on(script: &[u8], line: usize, events: &[u8], index: usize) -> Line {
+    let wrong = parts::line(script, line);
     let hint = given::on_line(wrong, given::fault(events, index));
-    put_behind(page, 0, path, refused(wrong, line, number, hint))
+    refused(wrong, line, BAD_EVENT, hint)
 }
 
 // A refusal of the turns.
-pub fn put_of_turns(page: &mut Page, turns: &[u8], number: u8) -> usize {
-    let mut told = Line::empty();
-    told = crate::part(told, words::TURNS_ASKED);
-    told = refusal(told, number);
-    put_behind(page, 0, turns, told)
+pub fn of_turns(number: u8) -> Line {
+    refusal(crate::part(Line::empty(), words::TURNS_ASKED), number)
 }
 
 // A fault of a script, with its line.
-pub fn put_of_script(page: &mut Page, path: &[u8], text: &[u8], line: usize, fault: u8) -> usize {
-    put_behind(
-        page,
-        0,
-        path,
-        of_script(parts::line(text, line), line, fault),
-    )
-}
-
-fn of_script(wrong: &[u8], line: usize, fault: u8) -> Line {
+pub fn of_script(script: &[u8], line: usize, fault: u8) -> Line {
+    let wrong = parts::line(script, line);
     let place = scripts::place_of_fault(parts::code(wrong), fault);
     let start = words::meaning_for(words::SCRIPT, fault as u32);
     shown(wrong, line, start, hints::at(place, 0, 0))

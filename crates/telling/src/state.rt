@@ -99,11 +99,11 @@ pub fn put(
     image: &[u8],
     motion: u8,
     value: i32,
-    variables: [i32; 64],
-    start: [i32; 64],
+    variables: &[i32],
+    start: &[i32],
 ) -> usize {
-    let mut line = position(variables[POSITION], motion, value);
-    line = outputs(line, image, &variables);
+    let mut line = position(value_of(variables, POSITION), motion, value);
+    line = outputs(line, image, variables);
     let at = line.onto(page, held);
-    put_changes(page, at, image, &variables, &start)
+    put_changes(page, at, image, variables, start)
 }

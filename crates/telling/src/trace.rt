@@ -21,21 +21,43 @@ const RECORD_COLUMN: usize = TURN_WIDTH + GAP + LINE_WIDTH + GAP + STATEMENT_WID
 // What a last turn has of the first column, with the dash before it.
 const BEFORE_DASH: usize = TURN_WIDTH - 1;
 
-// A page that holds this much is full: it has room for one line, and for the end of a run.
-const FULL: usize = writing::PAGE - 4 * writing::LINE;
-
-// More lines than a page has room for.
-const MOST_LINES: usize = writing::PAGE;
+// A page that holds this much is full: it has room for one line.
+pub const FULL: usize = writing::PAGE - writing::LINE;
 
 // No turn has this number.
 const NO_TURN: usize = 4294967296;
 
-// The place of a text where a turn is, among those of a run.
-fn place_of(visits: &[u8], turn: usize) -> u16 {
+// How many cells a text makes at the most.
+const CELLS: usize = 256;
+
+// For each cell of a text the number of its line, in two bytes.
+fn put_cells(table: &mut Page, text: &[u8]) {
+    for place in 0..CELLS {
+        let found = translation::line_of(text, place as u16);
+        numbers::write(table, place * 2, 2, found.line as u64);
+    }
+}
+
+// A number of two bytes by its place among those of a run's turns.
+fn number_at(bytes: &[u8], turn: usize) -> usize {
     if Event::MOST < turn {
         return 0;
     }
-    numbers::read2(visits, turn * 2)
+    numbers::read2(bytes, turn * 2) as usize
+}
+
+// For each turn the number of its line, in place of its cell.
+pub fn put_lines(visits: &mut Page, text: &[u8], turns: usize) {
+    let mut table = writing::page();
+    put_cells(&mut table, text);
+    for turn in 0..turns {
+        if Event::MOST < turn {
+            return;
+        }
+        let cell = number_at(writing::held_on(visits, writing::PAGE), turn);
+        let line = number_at(writing::held_on(&table, writing::PAGE), cell);
+        numbers::write(visits, turn * 2, 2, line as u64);
+    }
 }
 
 // A record or an event by its number; none has a number above the most.
@@ -54,17 +76,17 @@ fn turn_of(bytes: &[u8], k: usize) -> usize {
     entry(bytes, k).turn as usize
 }
 
-// The turn after a stay at one place that begins with this turn. A turn that records something is one by itself; the stay ends
+// The turn after a stay at one line that begins with this turn. A turn that records something is one by itself; the stay ends
 // before the next such turn, and before the next event.
-fn stay_end(visits: &[u8], turns: usize, turn: usize, record: usize, event: usize) -> usize {
+fn stay_end(lines: &[u8], turns: usize, turn: usize, record: usize, event: usize) -> usize {
     if record == turn {
         return crate::one_more(turn);
     }
-    let place = place_of(visits, turn);
+    let line = number_at(lines, turn);
     let mut end = turn;
     while end < turns {
         end += 1;
-        if (end == record) | (end == event) | (place_of(visits, end) != place) {
+        if (end == record) | (end == event) | (number_at(lines, end) != line) {
             return end;
         }
     }
@@ -132,13 +154,12 @@ fn record_in_words(mut line: Line, image: &[u8], record: Event) -> Line {
     line.signed(record.value)
 }
 
-// The statement of a turn or of a stay at a place of a text, with its turns and its line.
-fn row(text: &[u8], place: u16, turn: usize, end: usize) -> Line {
-    let found = translation::line_of(text, place);
-    let statement = parts::uncommented(parts::between(text, found.start, found.end));
+// The statement of a turn or of a stay at a line of a text, with its turns and the line's number.
+fn row(text: &[u8], number: usize, turn: usize, end: usize) -> Line {
+    let statement = parts::uncommented(parts::line(text, number));
     let mut line = turns_of(turn as u64, crate::one_less(end) as u64);
     line = line.spaces(GAP);
-    line = line.number_to(found.line as u64, LINE_WIDTH);
+    line = line.number_to(number as u64, LINE_WIDTH);
     line = line.spaces(GAP);
     line.bytes(statement)
 }
@@ -162,7 +183,7 @@ fn put_event(page: &mut Page, mark: Mark, events: &[u8]) -> Mark {
     }
 }
 
-// A turn or a stay at one place, up to before another turn.
+// A turn or a stay at one line, up to before another turn.
 fn put_turn(
     page: &mut Page,
     mark: Mark,
@@ -185,78 +206,13 @@ fn put_turn(
     }
 }
 
-// The next line: an event, or else a turn or a stay.
-fn put_step(
-    page: &mut Page,
-    mark: Mark,
-    text: &[u8],
-    image: &[u8],
-    events: &[u8],
-    records: &[u8],
-    visits: &[u8],
-    turns: usize,
-) -> Mark {
-    let event = turn_of(events, mark.event);
-    if event == mark.turn {
-        return put_event(page, mark, events);
-    }
-    let record = turn_of(records, mark.record);
-    let end = stay_end(visits, turns, mark.turn, record, event);
-    let row = row(text, place_of(visits, mark.turn), mark.turn, end);
-    put_turn(page, mark, end, row, image, records)
-}
-
-// The run of a text from a mark on, as much of it as the page has room for: for its turns the places, and its events and records.
-pub fn put(
-    page: &mut Page,
-    before: Mark,
-    text: &[u8],
-    image: &[u8],
-    events: &[u8],
-    records: &[u8],
-    visits: &[u8],
-    turns: usize,
-) -> Mark {
-    let mut mark = before;
-    for _ in 0..MOST_LINES {
-        if (turns <= mark.turn) | (FULL <= mark.held) {
-            break;
-        }
-        mark = put_step(page, mark, text, image, events, records, visits, turns);
-    }
-    mark
-}
-
-// The first page of a run begins with a header, and nothing is told yet.
-pub fn begun(page: &mut Page) -> Mark {
-    let mut line = Line::empty();
-    line = crate::part(line, words::HEADER);
-    line = line.end();
+// A record with its turn, where those alone are told; they are counted as turns.
+fn put_record(page: &mut Page, mark: Mark, image: &[u8], records: &[u8]) -> Mark {
     Mark {
-        turn: 0,
-        event: 0,
-        record: 0,
-        held: line.onto(page, 0),
-    }
-}
-
-// The records from a number on, each on a line of its own with its turn, as many as the page has room for.
-pub fn put_records(page: &mut Page, first: usize, image: &[u8], records: &[u8]) -> Mark {
-    let count = events::script::event_count(records);
-    let mut held: usize = 0;
-    let mut k = first;
-    while k < count {
-        if FULL <= held {
-            break;
-        }
-        held = record_line(image, entry(records, k)).onto(page, held);
-        k += 1;
-    }
-    Mark {
-        turn: 0,
-        event: 0,
-        record: k,
-        held,
+        turn: crate::one_more(mark.turn),
+        event: mark.event,
+        record: mark.record,
+        held: record_line(image, entry(records, mark.turn)).onto(page, mark.held),
     }
 }
 
@@ -266,4 +222,46 @@ fn record_line(image: &[u8], record: Event) -> Line {
     line = line.spaces(GAP);
     line = record_in_words(line, image, record);
     line.end()
+}
+
+// What is next of a run: an event, or else a turn or a stay; a record where the turns have no lines.
+pub fn put_next(
+    page: &mut Page,
+    mark: Mark,
+    text: &[u8],
+    image: &[u8],
+    events: &[u8],
+    records: &[u8],
+    lines: &[u8],
+    turns: usize,
+) -> Mark {
+    if lines.len() == 0 {
+        return put_record(page, mark, image, records);
+    }
+    let event = turn_of(events, mark.event);
+    if event == mark.turn {
+        return put_event(page, mark, events);
+    }
+    let record = turn_of(records, mark.record);
+    let end = stay_end(lines, turns, mark.turn, record, event);
+    let row = row(text, number_at(lines, mark.turn), mark.turn, end);
+    put_turn(page, mark, end, row, image, records)
+}
+
+// Nothing is told yet, but a header where the turns have lines.
+pub fn begun(page: &mut Page, lines: &[u8]) -> Mark {
+    Mark {
+        turn: 0,
+        event: 0,
+        record: 0,
+        held: header(lines).onto(page, 0),
+    }
+}
+
+fn header(lines: &[u8]) -> Line {
+    let line = Line::empty();
+    if lines.len() == 0 {
+        return line;
+    }
+    crate::part(line, words::HEADER).end()
 }
