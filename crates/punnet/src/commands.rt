@@ -4,6 +4,7 @@ use crate::outputs;
 use crate::paths;
 use bench::Ran;
 use libc::STDOUT_FILENO;
+use telling::Mark;
 use telling::refusals;
 use telling::state;
 use telling::trace;
@@ -36,9 +37,6 @@ const NO_NUMBER: u32 = 1000;
 
 // More lines than the longest run has.
 const MOST_LINES: u16 = 65535;
-
-// The refusal of too many turns.
-const MANY_TURNS: u8 = 34;
 
 // Writes a page that is done, and answers the status.
 pub fn done(page: &Page, held: usize) -> u8 {
@@ -115,11 +113,6 @@ pub fn refuse(given: &[u8], told: Line) -> u8 {
     REFUSED
 }
 
-// A refusal of the turns.
-pub fn refuse_turns(word: &[u8]) -> u8 {
-    refuse(word, refusals::of_turns(MANY_TURNS))
-}
-
 // The values of the variables before the first turn: the state of a run of no turns.
 pub fn start_values(image: &[u8]) -> [i32; 64] {
     let mut none = [0u8; 1];
@@ -171,18 +164,24 @@ pub fn tell_end(to: &[u8], image: &[u8], ran: Ran) -> u8 {
     done_with(to, &page, held)
 }
 
-// Tells a run page by page: its turns with their lines, or where they have none only its records.
+// Tells a run page by page: its turns, by the cells that they visit and the lines of those; or where none are visited only its records.
 pub fn tell_run(
     to: &[u8],
     text: &[u8],
     image: &[u8],
     events: &[u8],
     records: &[u8],
-    lines: &[u8],
+    visits: &[u8],
+    cells: &[u8],
     turns: usize,
 ) -> u8 {
     let mut page = writing::page();
-    let mut mark = trace::begun(&mut page, lines);
+    let mut mark = Mark {
+        turn: 0,
+        event: 0,
+        record: 0,
+        held: trace::put_header(&mut page, visits),
+    };
     for _ in 0..MOST_LINES {
         if turns <= mark.turn {
             break;
@@ -193,7 +192,17 @@ pub fn tell_run(
             }
             mark.held = 0;
         }
-        mark = trace::put_next(&mut page, mark, text, image, events, records, lines, turns);
+        mark = trace::put_next(
+            &mut page,
+            mark,
+            text,
+            image,
+            events,
+            records,
+            visits,
+            cells,
+            turns,
+        );
     }
     done_with(to, &page, mark.held)
 }

@@ -6,6 +6,7 @@ mod given;
 mod images;
 mod outputs;
 mod paths;
+mod runs;
 mod scripted;
 mod seen;
 mod texts;
@@ -55,10 +56,10 @@ fn is_writing(command: u32) -> bool {
 // Does what a command says with its arguments.
 fn work(command: u32, force: bool, a: &[u8], b: &[u8], c: &[u8], d: &[u8]) -> u8 {
     match command {
-        TRY => texts::try_command(a, b, c),
+        TRY => runs::try_command(a, b, c),
         TRANSLATE => texts::translate_command(a, b, force),
         CHECK => images::check_command(a),
-        RUN => images::run_command(a, b, c, d, force),
+        RUN => runs::run_command(false, a, b, c, d, force),
         EVENTS => scripted::events_command(a, b, force),
         _ => commands::show(command, a),
     }

@@ -132,12 +132,6 @@ pub fn may_replace(path: &[u8], kind: u32, force: bool, first: &[u8], second: &[
     false
 }
 
-// The name of a file that is being written: `.part` and a number behind the name that is meant.
-fn put_part(page: &mut Page, path: &[u8], k: u16) -> usize {
-    let length = writing::put(page, 0, cut(path));
-    telling::part_number(Line::empty(), words::UNFINISHED, k as u64).onto(page, length)
-}
-
 // A path whose last name is so short that the most can be put behind it.
 fn cut<'a>(path: &'a [u8]) -> &'a [u8] {
     let name = parts::back(path, paths::folder_length(path));
@@ -150,16 +144,25 @@ fn cut<'a>(path: &'a [u8]) -> &'a [u8] {
     parts::front(path, path.len() - MOST_BEHIND)
 }
 
-// Makes a new file beside the one that is meant. The first of its names that is taken is told.
+// Makes a new file: `.part` and a number behind the name that is meant.
+fn make(page: &mut Page, path: &[u8], k: u16) -> Part {
+    let base = writing::put(page, 0, cut(path));
+    let length = telling::part_number(Line::empty(), words::UNFINISHED, k as u64).onto(page, base);
+    Part {
+        length,
+        file: os::create(writing::held_on(page, length)),
+    }
+}
+
+// Makes one beside the file that is meant. The first of its names that is taken is told.
 fn make_part(path: &[u8], page: &mut Page) -> Part {
     for k in 0..MOST_PARTS {
-        let length = put_part(page, path, k);
-        let file = os::create(writing::held_on(page, length));
-        if (0 <= file) | (os::errno() != libc::EEXIST) {
-            return Part { length, file };
+        let part = make(page, path, k);
+        if (0 <= part.file) | (os::errno() != libc::EEXIST) {
+            return part;
         }
         if k == 0 {
-            files::complain(writing::held_on(page, length), LEFT_OVER);
+            files::complain(writing::held_on(page, part.length), LEFT_OVER);
         }
     }
     Part {

@@ -11,8 +11,10 @@ const MOST_SHOWN: usize = 10;
 // How far lines of files and hints are set in.
 const SET_IN: usize = 4;
 
-// The refusal of an event.
+// The refusals of an event, and of too many turns.
 const BAD_EVENT: u8 = 33;
+
+const MANY_TURNS: u8 = 34;
 
 // What stands behind the name of a file where no line is meant.
 fn nowhere() -> Line {
@@ -80,12 +82,6 @@ fn shown(wrong: &[u8], line: usize, start: usize, hint: Hint) -> Line {
     hinted(told, hint)
 }
 
-// The same by the words of a refusal.
-fn refused(wrong: &[u8], line: usize, number: u8, hint: Hint) -> Line {
-    let start = words::line_for(words::REFUSAL, number as u32);
-    shown(wrong, line, start, hint)
-}
-
 // A refusal of a whole file.
 pub fn of_whole(number: u8) -> Line {
     refusal(nowhere(), number)
@@ -94,7 +90,8 @@ pub fn of_whole(number: u8) -> Line {
 // A refusal of a line of a text.
 fn of_line(text: &[u8], line: usize, number: u8) -> Line {
     let wrong = parts::line(text, line);
-    refused(wrong, line, number, hints::of_line(text, wrong, number))
+    let start = words::line_for(words::REFUSAL, number as u32);
+    shown(wrong, line, start, hints::of_line(text, wrong, number))
 }
 
 // The fault of the line behind so many others, where it has one and not enough are shown.
@@ -189,13 +186,14 @@ fn of_event(events: &[u8], index: usize) -> Line {
 // A bad event on a line of a script, and why it is bad.
 fn of_event_on(script: &[u8], line: usize, events: &[u8], index: usize) -> Line {
     let wrong = parts::line(script, line);
+    let start = words::line_for(words::REFUSAL, BAD_EVENT as u32);
     let hint = given::on_line(wrong, given::fault(events, index));
-    refused(wrong, line, BAD_EVENT, hint)
+    shown(wrong, line, start, hint)
 }
 
 // A refusal of the turns.
-pub fn of_turns(number: u8) -> Line {
-    refusal(crate::part(Line::empty(), words::TURNS_ASKED), number)
+pub fn of_turns() -> Line {
+    refusal(crate::part(Line::empty(), words::TURNS_ASKED), MANY_TURNS)
 }
 
 // A fault of a script, with its line.

@@ -31,33 +31,19 @@ const NO_TURN: usize = 4294967296;
 const CELLS: usize = 256;
 
 // For each cell of a text the number of its line, in two bytes.
-fn put_cells(table: &mut Page, text: &[u8]) {
+pub fn put_cells(cells: &mut Page, text: &[u8]) {
     for place in 0..CELLS {
         let found = translation::line_of(text, place as u16);
-        numbers::write(table, place * 2, 2, found.line as u64);
+        numbers::write(cells, place * 2, 2, found.line as u64);
     }
 }
 
-// A number of two bytes by its place among those of a run's turns.
-fn number_at(bytes: &[u8], turn: usize) -> usize {
-    if Event::MOST < turn {
+// A number of two bytes by its place in a list, which has no more of them than a run has turns.
+fn listed(bytes: &[u8], k: usize) -> usize {
+    if Event::MOST < k {
         return 0;
     }
-    numbers::read2(bytes, turn * 2) as usize
-}
-
-// For each turn the number of its line, in place of its cell.
-pub fn put_lines(visits: &mut Page, text: &[u8], turns: usize) {
-    let mut table = writing::page();
-    put_cells(&mut table, text);
-    for turn in 0..turns {
-        if Event::MOST < turn {
-            return;
-        }
-        let cell = number_at(writing::held_on(visits, writing::PAGE), turn);
-        let line = number_at(writing::held_on(&table, writing::PAGE), cell);
-        numbers::write(visits, turn * 2, 2, line as u64);
-    }
+    numbers::read2(bytes, k * 2) as usize
 }
 
 // A record or an event by its number; none has a number above the most.
@@ -76,17 +62,17 @@ fn turn_of(bytes: &[u8], k: usize) -> usize {
     entry(bytes, k).turn as usize
 }
 
-// The turn after a stay at one line that begins with this turn. A turn that records something is one by itself; the stay ends
+// The turn after a stay at one place that begins with this turn. A turn that records something is one by itself; the stay ends
 // before the next such turn, and before the next event.
-fn stay_end(lines: &[u8], turns: usize, turn: usize, record: usize, event: usize) -> usize {
+fn stay_end(visits: &[u8], turns: usize, turn: usize, record: usize, event: usize) -> usize {
     if record == turn {
         return crate::one_more(turn);
     }
-    let line = number_at(lines, turn);
+    let place = listed(visits, turn);
     let mut end = turn;
     while end < turns {
         end += 1;
-        if (end == record) | (end == event) | (number_at(lines, end) != line) {
+        if (end == record) | (end == event) | (listed(visits, end) != place) {
             return end;
         }
     }
@@ -183,7 +169,7 @@ fn put_event(page: &mut Page, mark: Mark, events: &[u8]) -> Mark {
     }
 }
 
-// A turn or a stay at one line, up to before another turn.
+// A turn or a stay at one place, up to before another turn.
 fn put_turn(
     page: &mut Page,
     mark: Mark,
@@ -224,7 +210,7 @@ fn record_line(image: &[u8], record: Event) -> Line {
     line.end()
 }
 
-// What is next of a run: an event, or else a turn or a stay; a record where the turns have no lines.
+// What is next of a run: an event, or else a turn or a stay; a record where no places are given.
 pub fn put_next(
     page: &mut Page,
     mark: Mark,
@@ -232,10 +218,11 @@ pub fn put_next(
     image: &[u8],
     events: &[u8],
     records: &[u8],
-    lines: &[u8],
+    visits: &[u8],
+    cells: &[u8],
     turns: usize,
 ) -> Mark {
-    if lines.len() == 0 {
+    if visits.len() == 0 {
         return put_record(page, mark, image, records);
     }
     let event = turn_of(events, mark.event);
@@ -243,25 +230,18 @@ pub fn put_next(
         return put_event(page, mark, events);
     }
     let record = turn_of(records, mark.record);
-    let end = stay_end(lines, turns, mark.turn, record, event);
-    let row = row(text, number_at(lines, mark.turn), mark.turn, end);
+    let end = stay_end(visits, turns, mark.turn, record, event);
+    let number = listed(cells, listed(visits, mark.turn));
+    let row = row(text, number, mark.turn, end);
     put_turn(page, mark, end, row, image, records)
 }
 
-// Nothing is told yet, but a header where the turns have lines.
-pub fn begun(page: &mut Page, lines: &[u8]) -> Mark {
-    Mark {
-        turn: 0,
-        event: 0,
-        record: 0,
-        held: header(lines).onto(page, 0),
+// A run begins with a header, where its places are given.
+pub fn put_header(page: &mut Page, visits: &[u8]) -> usize {
+    if visits.len() == 0 {
+        return 0;
     }
-}
-
-fn header(lines: &[u8]) -> Line {
-    let line = Line::empty();
-    if lines.len() == 0 {
-        return line;
-    }
-    crate::part(line, words::HEADER).end()
+    crate::part(Line::empty(), words::HEADER)
+        .end()
+        .onto(page, 0)
 }

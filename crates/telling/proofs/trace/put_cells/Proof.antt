@@ -6,10 +6,10 @@ use Rattle.telling.proofs.trace.put_cells.Statement.{statement}
 use Rattle.telling.proofs.trace.put_cells.Tie as tie
 
 abbrev Inv-loop : tie.InvT-loop
-Inv-loop table₀ text place₀ table place = Unit {0}
+Inv-loop cells₀ text place₀ cells place = Unit {0}
 
 abbrev μ-loop : tie.MeasureT-loop
-μ-loop table₀ text place₀ table place = 256 - place
+μ-loop cells₀ text place₀ cells place = 256 - place
 
 pub put-cells-spec : {M : Type 1} → statement M
 put-cells-spec =

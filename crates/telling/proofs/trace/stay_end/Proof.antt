@@ -6,10 +6,10 @@ use Rattle.telling.proofs.trace.stay_end.Statement.{statement}
 use Rattle.telling.proofs.trace.stay_end.Tie as tie
 
 abbrev Inv-loop : tie.InvT-loop
-Inv-loop lines turns turn «record» event line end₀ end = Unit {0}
+Inv-loop visits turns turn «record» event place end₀ end = Unit {0}
 
 abbrev μ-loop : tie.MeasureT-loop
-μ-loop lines turns turn «record» event line end₀ end = turns - end
+μ-loop visits turns turn «record» event place end₀ end = turns - end
 
 pub stay-end-spec : {M : Type 1} → statement M
 stay-end-spec =

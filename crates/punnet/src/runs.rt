@@ -1,0 +1,138 @@
+// The commands that run a program on events: try, on a text, and run, on an image.
+use crate::commands;
+use crate::commands::ACCEPTED;
+use crate::commands::TROUBLE;
+use crate::files;
+use crate::given;
+use crate::given::Buffer;
+use crate::outputs;
+use crate::texts;
+use telling::refusals;
+use telling::trace;
+
+// The records of a run, at the front of a buffer.
+pub fn of_records<'a>(buffer: &'a Buffer, count: usize) -> &'a [u8] {
+    if events::Event::MOST < count {
+        return parts::front(buffer, 0);
+    }
+    parts::front(buffer, events::script::SIZE * count)
+}
+
+// try TEXT [EVENTS] [TURNS]: a lone word of digits behind the text is the turns.
+pub fn try_command(path: &[u8], events: &[u8], turns: &[u8]) -> u8 {
+    let none = &path[..0];
+    let number = scripts::digits(events);
+    if (turns.len() == 0) & (number.fault != scripts::BAD_FORM) {
+        return run_command(true, path, none, events, none, false);
+    }
+    run_command(true, path, events, turns, none, false)
+}
+
+// run [-f] IMAGE EVENTS TURNS [RECORDS], or the same with a text
+pub fn run_command(
+    is_text: bool,
+    path: &[u8],
+    events: &[u8],
+    word: &[u8],
+    to: &[u8],
+    force: bool,
+) -> u8 {
+    let turns = given::turns(word);
+    if !turns.is_number {
+        return files::complain(word, commands::NO_TURNS);
+    }
+    if given::MOST_TURNS < turns.count {
+        return commands::refuse(word, refusals::of_turns());
+    }
+    if !outputs::may_replace(to, outputs::RECORDS, force, path, events) {
+        return TROUBLE;
+    }
+    run_file(is_text, path, events, turns.count, to)
+}
+
+fn run_file(is_text: bool, path: &[u8], events: &[u8], turns: u64, to: &[u8]) -> u8 {
+    let mut room = io::large_buffer();
+    let contents = files::read(path, &mut room);
+    if contents.failed {
+        return TROUBLE;
+    }
+    let file = given::of_buffer(&room, contents.length);
+    run_script(is_text, path, file, events, turns, to)
+}
+
+fn run_script(is_text: bool, path: &[u8], file: &[u8], events: &[u8], turns: u64, to: &[u8]) -> u8 {
+    let mut bytes = io::large_buffer();
+    let read = given::events(events, &mut bytes);
+    if read.status != ACCEPTED {
+        return read.status;
+    }
+    let script = given::of_buffer(&bytes, read.length);
+    if is_text {
+        return try_text(path, file, script, turns);
+    }
+    run_image(path, file, script, turns, to)
+}
+
+// Tries a text on events, and tells how it went. Events and turns that a run refuses are told before.
+fn try_text(path: &[u8], text: &[u8], script: &[u8], turns: u64) -> u8 {
+    let mut image = io::large_buffer();
+    let mut records = io::large_buffer();
+    let tried = tried::try_text(text, &mut image, script, turns, &mut records);
+    let translated = tried.translated;
+    if translated.number != 0 {
+        return texts::refuse(path, text, translated.line, translated.number);
+    }
+    let ran = tried.ran;
+    let accepted = given::of_buffer(&image, translated.length);
+    let told = tell(
+        text,
+        accepted,
+        script,
+        of_records(&records, ran.records),
+        turns,
+    );
+    if told != ACCEPTED {
+        return told;
+    }
+    commands::tell_end(&text[..0], accepted, ran)
+}
+
+// Tells the run of a text turn by turn.
+fn tell(text: &[u8], image: &[u8], script: &[u8], records: &[u8], turns: u64) -> u8 {
+    let mut cells = io::large_buffer();
+    let mut visits = io::large_buffer();
+    let taken = tried::visit_text(text, &mut cells, script, turns, &mut visits);
+    trace::put_cells(&mut cells, text);
+    commands::tell_run(
+        &text[..0],
+        text,
+        image,
+        script,
+        records,
+        given::of_buffer(&visits, 65536),
+        given::of_buffer(&cells, 65536),
+        taken,
+    )
+}
+
+// Runs an image on events, keeps the records where a file is named for them, and tells how it went.
+fn run_image(path: &[u8], image: &[u8], script: &[u8], turns: u64, to: &[u8]) -> u8 {
+    let mut room = io::large_buffer();
+    let ran = bench::run(image, script, turns, &mut room);
+    if ran.number != 0 {
+        return commands::refuse(path, refusals::of_image(image, ran.number));
+    }
+    let kept = keep(to, image, of_records(&room, ran.records), ran.records);
+    if kept != ACCEPTED {
+        return kept;
+    }
+    commands::tell_end(to, image, ran)
+}
+
+fn keep(to: &[u8], image: &[u8], records: &[u8], count: usize) -> u8 {
+    if !outputs::write(to, records) {
+        return TROUBLE;
+    }
+    let none = &to[..0];
+    commands::tell_run(to, none, image, none, records, none, none, count)
+}
