@@ -18,7 +18,15 @@ pub const REFUSED: u8 = b'1';
 
 pub const TROUBLE: u8 = b'2';
 
-// Commands that show a page, by their numbers in the table of words.
+// Commands on programs, and those that show a page, by their numbers in the table of words.
+pub const TRY: u32 = 1;
+
+pub const TRANSLATE: u32 = 2;
+
+pub const CHECK: u32 = 3;
+
+pub const RUN: u32 = 4;
+
 pub const WORDS: u32 = 6;
 
 pub const VERSION: u32 = 10;

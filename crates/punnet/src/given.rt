@@ -4,9 +4,7 @@ use crate::commands::ACCEPTED;
 use crate::commands::TROUBLE;
 use crate::files;
 use crate::paths;
-use events::Event;
 use telling::refusals;
-use writing::Line;
 
 // How many bytes the events of a file take, and the status where it cannot be used.
 pub struct Given {
@@ -18,12 +16,6 @@ pub struct Given {
 pub struct Budget {
     pub count: u64,
     pub is_number: bool,
-}
-
-// A refusal of events: its number, and the index of the event.
-struct Refusal {
-    number: u8,
-    index: usize,
 }
 
 // The most turns that a run may take.
@@ -38,10 +30,6 @@ type Room = [u8; ROOM];
 pub type Buffer = [u8; 65536];
 
 const LONG_FILE: u32 = 28;
-
-const BAD_SCRIPT: u8 = 32;
-
-const BAD_EVENT: u8 = 33;
 
 // The first bytes of a buffer.
 pub fn of_buffer<'a>(buffer: &'a Buffer, length: usize) -> &'a [u8] {
@@ -106,62 +94,18 @@ fn of_room<'a>(room: &'a Room, length: usize) -> &'a [u8] {
 
 fn of_file(path: &[u8], file: &[u8], bytes: &mut Buffer) -> Given {
     let read = scripts::read(file, bytes);
-    if read.fault != scripts::NO_FAULT {
-        return refused(path, refusals::of_script(file, read.line, read.fault));
-    }
-    accepted(path, file, of_buffer(bytes, read.length))
-}
-
-// The events of a file, if a run takes them; else the refusal is told.
-fn accepted(path: &[u8], file: &[u8], events: &[u8]) -> Given {
-    let refusal = refusal_of(events);
-    if refusal.number == 0 {
+    let events = of_buffer(bytes, read.length);
+    if (read.fault == scripts::NO_FAULT) & are_events(events) {
         return Given {
-            length: events.len(),
+            length: read.length,
             status: ACCEPTED,
         };
     }
-    refused(
-        path,
-        refusals::of_events(file, events, refusal.number, refusal.index),
-    )
-}
-
-// No events, and a refusal is told.
-fn refused(path: &[u8], told: Line) -> Given {
+    let told = refusals::of_events(file, events, read.line, read.fault);
     no_events(commands::refuse(path, told))
 }
 
 // Whether bytes are events that a run takes.
 pub fn are_events(bytes: &[u8]) -> bool {
-    let refusal = refusal_of(bytes);
-    refusal.number == 0
-}
-
-// What a run answers to events, before it looks at anything else: the number, and the index of a bad event.
-fn refusal_of(events: &[u8]) -> Refusal {
-    let count = events::script::event_count(events);
-    if Event::MOST < count {
-        return Refusal {
-            number: BAD_SCRIPT,
-            index: 0,
-        };
-    }
-    if events::script::is_bad_script(events) {
-        return Refusal {
-            number: BAD_SCRIPT,
-            index: 0,
-        };
-    }
-    let index = events::script::first_bad_event(events);
-    if index < count {
-        return Refusal {
-            number: BAD_EVENT,
-            index,
-        };
-    }
-    Refusal {
-        number: 0,
-        index: 0,
-    }
+    telling::given::first_refused(bytes) == events::script::event_count(bytes)
 }

@@ -6,6 +6,7 @@ mod given;
 mod images;
 mod outputs;
 mod paths;
+mod programs;
 mod runs;
 mod scripted;
 mod seen;
@@ -15,21 +16,17 @@ use arguments::FORCE;
 use arguments::LONG_HELP;
 use arguments::NO_OPTION;
 use arguments::SHORT_HELP;
+use commands::CHECK;
+use commands::RUN;
+use commands::TRANSLATE;
+use commands::TRY;
 use commands::VERSION;
 use commands::WORDS;
 
 // Where the status goes, as one digit: a descriptor that no file is opened on.
 const STATUS: i32 = 9;
 
-// The commands, by their numbers in the table of words.
-const TRY: u32 = 1;
-
-const TRANSLATE: u32 = 2;
-
-const CHECK: u32 = 3;
-
-const RUN: u32 = 4;
-
+// Other commands, by their numbers in the table of words.
 const EVENTS: u32 = 5;
 
 const HELP: u32 = 7;
@@ -58,8 +55,8 @@ fn work(command: u32, force: bool, a: &[u8], b: &[u8], c: &[u8], d: &[u8]) -> u8
     match command {
         TRY => runs::try_command(a, b, c),
         TRANSLATE => texts::translate_command(a, b, force),
-        CHECK => images::check_command(a),
-        RUN => runs::run_command(false, a, b, c, d, force),
+        CHECK => programs::work_on(command, a, b, 0, b),
+        RUN => runs::run_command(command, a, b, c, d, force),
         EVENTS => scripted::events_command(a, b, force),
         _ => commands::show(command, a),
     }

@@ -2,10 +2,12 @@
 use crate::commands;
 use crate::commands::ACCEPTED;
 use crate::commands::TROUBLE;
+use crate::commands::TRY;
 use crate::files;
 use crate::given;
 use crate::given::Buffer;
 use crate::outputs;
+use crate::programs;
 use crate::texts;
 use telling::refusals;
 use telling::trace;
@@ -23,14 +25,14 @@ pub fn try_command(path: &[u8], events: &[u8], turns: &[u8]) -> u8 {
     let none = &path[..0];
     let number = scripts::digits(events);
     if (turns.len() == 0) & (number.fault != scripts::BAD_FORM) {
-        return run_command(true, path, none, events, none, false);
+        return run_command(TRY, path, none, events, none, false);
     }
-    run_command(true, path, events, turns, none, false)
+    run_command(TRY, path, events, turns, none, false)
 }
 
 // run [-f] IMAGE EVENTS TURNS [RECORDS], or the same with a text
 pub fn run_command(
-    is_text: bool,
+    command: u32,
     path: &[u8],
     events: &[u8],
     word: &[u8],
@@ -47,20 +49,18 @@ pub fn run_command(
     if !outputs::may_replace(to, outputs::RECORDS, force, path, events) {
         return TROUBLE;
     }
-    run_file(is_text, path, events, turns.count, to)
+    programs::work_on(command, path, events, turns.count, to)
 }
 
-fn run_file(is_text: bool, path: &[u8], events: &[u8], turns: u64, to: &[u8]) -> u8 {
-    let mut room = io::large_buffer();
-    let contents = files::read(path, &mut room);
-    if contents.failed {
-        return TROUBLE;
-    }
-    let file = given::of_buffer(&room, contents.length);
-    run_script(is_text, path, file, events, turns, to)
-}
-
-fn run_script(is_text: bool, path: &[u8], file: &[u8], events: &[u8], turns: u64, to: &[u8]) -> u8 {
+// Reads the events, and runs the program on them.
+pub fn on_events(
+    is_text: bool,
+    path: &[u8],
+    file: &[u8],
+    events: &[u8],
+    turns: u64,
+    to: &[u8],
+) -> u8 {
     let mut bytes = io::large_buffer();
     let read = given::events(events, &mut bytes);
     if read.status != ACCEPTED {

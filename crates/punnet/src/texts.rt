@@ -1,10 +1,12 @@
 // The command that makes images of texts: translate.
 use crate::commands;
 use crate::commands::REFUSED;
+use crate::commands::TRANSLATE;
 use crate::commands::TROUBLE;
 use crate::files;
 use crate::given;
 use crate::outputs;
+use crate::programs;
 use telling::refusals;
 
 // Tells a refusal of a text: of the whole, or of its lines.
@@ -20,15 +22,10 @@ pub fn translate_command(path: &[u8], to: &[u8], force: bool) -> u8 {
     if !outputs::may_replace(to, outputs::IMAGE, force, path, path) {
         return TROUBLE;
     }
-    let mut room = io::large_buffer();
-    let contents = files::read(path, &mut room);
-    if contents.failed {
-        return TROUBLE;
-    }
-    translate(path, given::of_buffer(&room, contents.length), to)
+    programs::work_on(TRANSLATE, path, path, 0, to)
 }
 
-fn translate(path: &[u8], text: &[u8], to: &[u8]) -> u8 {
+pub fn translate(path: &[u8], text: &[u8], to: &[u8]) -> u8 {
     let mut room = io::large_buffer();
     let translated = bench::translate(text, &mut room);
     if translated.number != 0 {

@@ -19,6 +19,9 @@ const NO_KIND: u32 = 47;
 
 const NOT_ZERO: u32 = 48;
 
+// No event has this number.
+pub const NO_EVENTS: usize = usize::MAX;
+
 // What a file seems to be.
 const TEXT: u32 = 49;
 
@@ -30,6 +33,17 @@ pub const EDITION: u32 = 52;
 
 // The refusal of an image of another edition.
 const OTHER_EDITION: u8 = 22;
+
+// The number of the first event that a run refuses, and how many there are where it refuses none; or that they are no events as a whole.
+pub fn first_refused(events: &[u8]) -> usize {
+    if Event::MOST < events::script::event_count(events) {
+        return NO_EVENTS;
+    }
+    if events::script::is_bad_script(events) {
+        return NO_EVENTS;
+    }
+    events::script::first_bad_event(events)
+}
 
 // Why an input is bad.
 fn of_input(event: Event) -> u32 {

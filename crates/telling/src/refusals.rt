@@ -11,7 +11,9 @@ const MOST_SHOWN: usize = 10;
 // How far lines of files and hints are set in.
 const SET_IN: usize = 4;
 
-// The refusals of an event, and of too many turns.
+// The refusals of events as a whole, of one event, and of too many turns.
+const BAD_SCRIPT: u8 = 32;
+
 const BAD_EVENT: u8 = 33;
 
 const MANY_TURNS: u8 = 34;
@@ -164,10 +166,14 @@ pub fn of_image(image: &[u8], number: u8) -> Line {
     hinted(of_whole(number), hint)
 }
 
-// A refusal of events, of them all or of one, that a file gives as bytes or on the lines of a script.
-pub fn of_events(file: &[u8], events: &[u8], number: u8, index: usize) -> Line {
-    if number != BAD_EVENT {
-        return of_whole(number);
+// A refusal of events that a file gives, as bytes or as a script: the fault of a line, if there is one; of them all; or of one.
+pub fn of_events(file: &[u8], events: &[u8], line: usize, fault: u8) -> Line {
+    if fault != scripts::NO_FAULT {
+        return of_script(file, line, fault);
+    }
+    let index = given::first_refused(events);
+    if index == given::NO_EVENTS {
+        return of_whole(BAD_SCRIPT);
     }
     if scripts::is_bytes(file) {
         return of_event(events, index);
@@ -197,7 +203,7 @@ pub fn of_turns() -> Line {
 }
 
 // A fault of a script, with its line.
-pub fn of_script(script: &[u8], line: usize, fault: u8) -> Line {
+fn of_script(script: &[u8], line: usize, fault: u8) -> Line {
     let wrong = parts::line(script, line);
     let place = scripts::place_of_fault(parts::code(wrong), fault);
     let start = words::meaning_for(words::SCRIPT, fault as u32);
