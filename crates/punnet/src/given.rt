@@ -12,14 +12,11 @@ pub struct Given {
     pub status: u8,
 }
 
-// A number of turns; or that a word is none.
-pub struct Budget {
-    pub count: u64,
-    pub is_number: bool,
-}
-
 // The most turns that a run may take.
 pub const MOST_TURNS: u64 = 4096;
+
+// What is said of a word that is no number of turns.
+pub const NO_TURNS: u64 = u64::MAX;
 
 // The longest file of events that is read.
 const ROOM: usize = 262144;
@@ -37,24 +34,18 @@ pub fn of_buffer<'a>(buffer: &'a Buffer, length: usize) -> &'a [u8] {
 }
 
 // The number of turns that a word gives; the most where there is no word. Digits without end are more than any run may take.
-pub fn turns(word: &[u8]) -> Budget {
+pub fn turns(word: &[u8]) -> u64 {
     if word.len() == 0 {
-        return Budget {
-            count: MOST_TURNS,
-            is_number: true,
-        };
+        return MOST_TURNS;
     }
     let number = scripts::digits(word);
     if number.fault == scripts::BIG_NUMBER {
-        return Budget {
-            count: u64::MAX,
-            is_number: true,
-        };
+        return MOST_TURNS + 1;
     }
-    Budget {
-        count: number.size,
-        is_number: number.fault == scripts::NO_FAULT,
+    if number.fault != scripts::NO_FAULT {
+        return NO_TURNS;
     }
+    number.size
 }
 
 // No events, and a status.

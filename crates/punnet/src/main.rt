@@ -82,15 +82,7 @@ fn with_arguments(command: u32, force: bool) -> u8 {
     )
 }
 
-// A command with so many arguments, its `-f` not counted.
-fn counted(command: u32, name: &[u8], count: usize, force: bool) -> u8 {
-    if !takes(command, count) {
-        return files::complain(name, command);
-    }
-    with_arguments(command, force)
-}
-
-// A command with an option behind it, if that is one.
+// A command with so many arguments and an option behind it, if that is one.
 fn with_option(command: u32, name: &[u8], count: usize, option: u32) -> u8 {
     if (option == SHORT_HELP) | (option == LONG_HELP) {
         return commands::show(HELP, name);
@@ -98,17 +90,18 @@ fn with_option(command: u32, name: &[u8], count: usize, option: u32) -> u8 {
     if option == NO_OPTION {
         return files::complain(name, NO_OPTION);
     }
-    if (option == FORCE) & is_writing(command) {
-        return counted(command, name, one_less(count), true);
+    let force = (option == FORCE) & is_writing(command);
+    if !takes(command, one_less_if(force, count)) {
+        return files::complain(name, command);
     }
-    counted(command, name, count, false)
+    with_arguments(command, force)
 }
 
-fn one_less(count: usize) -> usize {
+fn one_less_if(test: bool, count: usize) -> usize {
     if count == 0 {
         return count;
     }
-    count - 1
+    if test { count - 1 } else { count }
 }
 
 fn command(name: &[u8], count: usize) -> u8 {

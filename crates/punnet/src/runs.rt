@@ -40,16 +40,16 @@ pub fn run_command(
     force: bool,
 ) -> u8 {
     let turns = given::turns(word);
-    if !turns.is_number {
+    if turns == given::NO_TURNS {
         return files::complain(word, commands::NO_TURNS);
     }
-    if given::MOST_TURNS < turns.count {
+    if given::MOST_TURNS < turns {
         return commands::refuse(word, refusals::of_turns());
     }
     if !outputs::may_replace(to, outputs::RECORDS, force, path, events) {
         return TROUBLE;
     }
-    programs::work_on(command, path, events, turns.count, to)
+    programs::work_on(command, path, events, turns, to)
 }
 
 // Reads the events, and runs the program on them.

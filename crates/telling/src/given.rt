@@ -100,19 +100,6 @@ pub fn on_line(line: &[u8], fault: u32) -> Hint {
     hints::at(place, fault, 0)
 }
 
-// No control characters but those between words and lines.
-fn is_text(bytes: &[u8]) -> bool {
-    let mut i: usize = 0;
-    while i < bytes.len() {
-        let b = bytes[i];
-        if (b < b'\t') | ((b'\r' < b) & (b < b' ')) {
-            return false;
-        }
-        i += 1;
-    }
-    true
-}
-
 // Entries with a kind and zeros as an event or a record has them alone, in 12 bytes each. The last zeros stand where an image has its edition.
 pub fn are_entries(bytes: &[u8]) -> bool {
     if events::script::is_bad_script(bytes) {
@@ -132,7 +119,7 @@ pub fn instead(file: &[u8], refusal: u8) -> u32 {
     if file.len() == 0 {
         return EMPTY;
     }
-    if is_text(file) {
+    if !scripts::is_bytes(file) {
         return TEXT;
     }
     if are_entries(file) {
