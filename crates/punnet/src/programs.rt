@@ -9,7 +9,7 @@ use crate::images;
 use crate::runs;
 use crate::texts;
 
-// Reads the program; what the command writes may be written, and its turns are not too many.
+// What may be written, and how many turns there are, is known before the program is read.
 pub fn work_on(command: u32, path: &[u8], events: &[u8], turns: u64, to: &[u8]) -> u8 {
     let mut room = io::large_buffer();
     let contents = files::read(path, &mut room);

@@ -13,7 +13,7 @@ use telling::refusals;
 use telling::trace;
 
 // The records of a run, at the front of a buffer.
-pub fn of_records<'a>(buffer: &'a Buffer, count: usize) -> &'a [u8] {
+fn of_records<'a>(buffer: &'a Buffer, count: usize) -> &'a [u8] {
     if events::Event::MOST < count {
         return parts::front(buffer, 0);
     }

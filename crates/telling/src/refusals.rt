@@ -85,7 +85,7 @@ fn shown(wrong: &[u8], line: usize, start: usize, hint: Hint) -> Line {
 }
 
 // A refusal of a whole file.
-pub fn of_whole(number: u8) -> Line {
+fn of_whole(number: u8) -> Line {
     refusal(nowhere(), number)
 }
 
