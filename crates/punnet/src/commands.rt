@@ -3,9 +3,8 @@ use crate::files;
 use crate::outputs;
 use crate::paths;
 use bench::Ran;
+use libc::STDERR_FILENO;
 use libc::STDOUT_FILENO;
-use telling::Mark;
-use telling::refusals;
 use telling::state;
 use telling::trace;
 use writing::Line;
@@ -59,7 +58,7 @@ pub fn done(page: &Page, held: usize) -> u8 {
 // it is told that the file is there.
 pub fn done_with(path: &[u8], page: &Page, held: usize) -> u8 {
     if paths::is_dash(path) {
-        files::tell(page, held);
+        io::write_all(STDERR_FILENO, writing::held_on(page, held));
         return ACCEPTED;
     }
     let status = done(page, held);
@@ -81,7 +80,7 @@ pub fn show(command: u32, word: &[u8]) -> u8 {
 
 fn put(page: &mut Page, command: u32, word: &[u8]) -> usize {
     match command {
-        WORDS => telling::all_words(page),
+        WORDS => telling::put_words(page, words::FIRST_FOR_PEOPLE, words::HELP),
         VERSION => telling::part(Line::empty(), words::VERSION)
             .end()
             .onto(page, 0),
@@ -92,11 +91,11 @@ fn put(page: &mut Page, command: u32, word: &[u8]) -> usize {
 // What is told of all commands, of a number, or of one command.
 fn put_help(page: &mut Page, word: &[u8]) -> usize {
     if word.len() == 0 {
-        return telling::help(page);
+        return telling::put_words(page, words::HELP, words::SIZE);
     }
     let number = number_in(word);
     if number != NO_NUMBER {
-        return telling::explain(page, number);
+        return telling::explain(number).onto(page, 0);
     }
     telling::help_of(page, words::number_for(words::COMMAND, word))
 }
@@ -115,9 +114,7 @@ fn number_in(word: &[u8]) -> u32 {
 
 // Tells a refusal of what was given.
 pub fn refuse(given: &[u8], told: Line) -> u8 {
-    let mut page = writing::page();
-    let held = refusals::put_behind(&mut page, 0, given, told);
-    files::tell(&page, held);
+    files::tell_of(given, told);
     REFUSED
 }
 
@@ -132,7 +129,8 @@ pub fn start_values(image: &[u8]) -> [i32; 64] {
 // Tells of a file what a line says, after one was written or none.
 pub fn tell_of(path: &[u8], line: Line, written: &[u8]) -> u8 {
     let mut page = writing::page();
-    let held = refusals::put_behind(&mut page, 0, path, line);
+    let named = telling::name(&mut page, path);
+    let held = line.onto(&mut page, named);
     done_with(written, &page, held)
 }
 
@@ -159,10 +157,9 @@ pub fn tell_end(to: &[u8], image: &[u8], ran: Ran) -> u8 {
     let values = end.variables;
     let start = start_values(image);
     let mut page = writing::page();
-    let mut held = state::put_end(&mut page, 0, ran.reason, ran.turns, ran.records);
-    held = state::put(
+    let held = state::put(
         &mut page,
-        held,
+        state::ended(ran.reason, ran.turns, ran.records),
         image,
         end.motion,
         end.value,
@@ -184,33 +181,21 @@ pub fn tell_run(
     turns: usize,
 ) -> u8 {
     let mut page = writing::page();
-    let mut mark = Mark {
-        turn: 0,
-        event: 0,
-        record: 0,
-        held: trace::put_header(&mut page, visits),
-    };
+    let mut held: usize = 0;
+    let mut mark = trace::start(visits);
     for _ in 0..MOST_LINES {
+        let line = mark.line;
+        held = line.onto(&mut page, held);
         if turns <= mark.turn {
             break;
         }
-        if trace::FULL <= mark.held {
-            if done_with(to, &page, mark.held) != ACCEPTED {
+        if trace::FULL <= held {
+            if done_with(to, &page, held) != ACCEPTED {
                 return TROUBLE;
             }
-            mark.held = 0;
+            held = 0;
         }
-        mark = trace::put_next(
-            &mut page,
-            mark,
-            text,
-            image,
-            events,
-            records,
-            visits,
-            cells,
-            turns,
-        );
+        mark = trace::next(mark, text, image, events, records, visits, cells, turns);
     }
-    done_with(to, &page, mark.held)
+    done_with(to, &page, held)
 }

@@ -1,56 +1,70 @@
 // Files that are read, and what is told of files and words that are wrong.
+use crate::Contents;
+use crate::Facts;
+use crate::commands::ACCEPTED;
 use crate::commands::TROUBLE;
 use crate::paths;
 use crate::seen;
-use crate::seen::Seen;
 use libc::STDERR_FILENO;
 use libc::STDIN_FILENO;
 use telling::refusals;
 use writing::Line;
-use writing::Page;
 ghost use Rattle.io.specs.Counts.{Counts};
 
-// How a file was read: how many bytes of the room it fills, and whether it could not be read.
-pub struct Contents {
-    pub length: usize,
-    pub failed: bool,
+// Writes a line to standard error.
+pub fn tell(line: Line) {
+    let bytes = line.bytes;
+    io::write_all(STDERR_FILENO, writing::held_in(&bytes, line.held));
 }
 
-// Writes what a page holds to standard error.
-pub fn tell(page: &Page, held: usize) {
-    io::write_all(STDERR_FILENO, writing::held_on(page, held));
+// The same behind what was given, a word or a file.
+pub fn tell_of(given: &[u8], line: Line) {
+    let mut page = writing::page();
+    let held = telling::name(&mut page, given);
+    io::write_all(STDERR_FILENO, writing::held_on(&page, held));
+    tell(line);
+}
+
+fn tell_part(number: u32) {
+    tell(telling::part(Line::empty(), number));
 }
 
 // Tells what is wrong with a word or a file that was given, and answers the status.
 pub fn complain(given: &[u8], number: u32) -> u8 {
-    let mut page = writing::page();
-    let held = refusals::put_of_use(&mut page, given, number);
-    tell(&page, held);
+    tell_part(words::PUNNET);
+    tell_of(given, refusals::of_use(number));
     TROUBLE
 }
 
 // Tells which file, and what the system says of it.
 pub fn trouble(path: &[u8]) {
+    tell_part(words::PUNNET);
     let mut page = writing::page();
-    let held = refusals::put_trouble(&mut page, path);
+    let held = telling::name(&mut page, path);
     os::fail(writing::held_on(&page, held));
 }
 
 // Tells that standard output could not be written.
 pub fn trouble_with_output() {
+    tell_part(words::PUNNET);
     let line = telling::part(Line::empty(), words::STANDARD_OUTPUT);
     let bytes = line.bytes;
-    trouble(writing::held_in(&bytes, line.held));
+    os::fail(writing::held_in(&bytes, line.held));
 }
 
 // What the system says of a file that is read; `-` is standard input.
-pub fn look(path: &[u8]) -> Seen {
+pub fn look(path: &[u8]) -> Facts {
     if !paths::is_dash(path) {
         return seen::look_at(path);
     }
     let line = telling::part(Line::empty(), words::STANDARD_INPUT);
     let bytes = line.bytes;
     seen::look_at(writing::held_in(&bytes, line.held))
+}
+
+// No contents, for a reason.
+pub fn nothing(status: u8) -> Contents {
+    Contents { length: 0, status }
 }
 
 // Reads a file, as much of it as there is room for.
@@ -65,11 +79,11 @@ pub fn read(path: &[u8], room: &mut [u8]) -> Contents
         trouble(path);
         return Contents {
             length: 0,
-            failed: true,
+            status: TROUBLE,
         };
     }
     let contents = fill(file, room);
-    if contents.failed {
+    if contents.status != ACCEPTED {
         trouble(path);
     }
     libc::close(file);
@@ -81,16 +95,17 @@ pub fn fill(file: i32, room: &mut [u8]) -> Contents
     ensures { λ r. ⌜ Counts (r .length) (now (room .exit)) ⌝ }
 {
     let length = io::read_full(file, room);
-    if length == room.len() {
-        return Contents {
-            length,
-            failed: false,
-        };
+    let mut status = ACCEPTED;
+    if length < room.len() {
+        status = status_at_end(file);
     }
+    Contents { length, status }
+}
+
+fn status_at_end(file: i32) -> u8 {
     let mut probe = [0u8; 1];
-    let got = libc::read(file, &mut probe);
-    Contents {
-        length,
-        failed: got != 0,
+    if libc::read(file, &mut probe) == 0 {
+        return ACCEPTED;
     }
+    TROUBLE
 }

@@ -1,16 +1,11 @@
 // What a command is given besides its text or image: events and turns.
+use crate::Contents;
 use crate::commands;
 use crate::commands::ACCEPTED;
 use crate::commands::TROUBLE;
 use crate::files;
 use crate::paths;
 use telling::refusals;
-
-// How many bytes the events of a file take, and the status where it cannot be used.
-pub struct Given {
-    pub length: usize,
-    pub status: u8,
-}
 
 // The most turns that a run may take.
 pub const MOST_TURNS: u64 = 4096;
@@ -48,29 +43,24 @@ pub fn turns(word: &[u8]) -> u64 {
     number.size
 }
 
-// No events, and a status.
-fn no_events(status: u8) -> Given {
-    Given { length: 0, status }
-}
-
 // Reads the events that a run is given; no name and `-` mean none.
-pub fn events(path: &[u8], bytes: &mut Buffer) -> Given {
+pub fn events(path: &[u8], bytes: &mut Buffer) -> Contents {
     if (path.len() == 0) | paths::is_dash(path) {
-        return no_events(ACCEPTED);
+        return files::nothing(ACCEPTED);
     }
     script(path, bytes)
 }
 
 // Reads a file of events, a script or bytes. What is wrong with it is told.
-pub fn script(path: &[u8], bytes: &mut Buffer) -> Given {
+pub fn script(path: &[u8], bytes: &mut Buffer) -> Contents {
     let mut file = room();
     let contents = files::read(path, &mut file);
-    if contents.failed {
-        return no_events(TROUBLE);
+    if contents.status != ACCEPTED {
+        return contents;
     }
     if contents.length == ROOM {
         files::complain(path, LONG_FILE);
-        return no_events(TROUBLE);
+        return files::nothing(TROUBLE);
     }
     of_file(path, of_room(&file, contents.length), bytes)
 }
@@ -83,17 +73,17 @@ fn of_room<'a>(room: &'a Room, length: usize) -> &'a [u8] {
     parts::front(room, length)
 }
 
-fn of_file(path: &[u8], file: &[u8], bytes: &mut Buffer) -> Given {
+fn of_file(path: &[u8], file: &[u8], bytes: &mut Buffer) -> Contents {
     let read = scripts::read(file, bytes);
     let events = of_buffer(bytes, read.length);
     if (read.fault == scripts::NO_FAULT) & are_events(events) {
-        return Given {
+        return Contents {
             length: read.length,
             status: ACCEPTED,
         };
     }
     let told = refusals::of_events(file, events, read.line, read.fault);
-    no_events(commands::refuse(path, told))
+    files::nothing(commands::refuse(path, told))
 }
 
 // Whether bytes are events that a run takes.

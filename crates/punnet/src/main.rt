@@ -23,6 +23,29 @@ use commands::TRY;
 use commands::VERSION;
 use commands::WORDS;
 
+// How a file was read: how many bytes of the room it takes, and the status, which says whether it can be used.
+pub struct Contents {
+    pub length: usize,
+    pub status: u8,
+}
+
+// A file that is being written: the length of its name, and its descriptor.
+pub struct Part {
+    pub length: usize,
+    pub file: i32,
+}
+
+// Whether there is a file, and whether it is a plain one; its permissions and owners; and the device and number that tell it from others.
+pub struct Facts {
+    pub found: bool,
+    pub plain: bool,
+    pub mode: u32,
+    pub owner: u32,
+    pub group: u32,
+    pub device: u64,
+    pub number: u64,
+}
+
 // Where the status goes, as one digit: a descriptor that no file is opened on.
 const STATUS: i32 = 9;
 
@@ -62,21 +85,30 @@ fn work(command: u32, force: bool, a: &[u8], b: &[u8], c: &[u8], d: &[u8]) -> u8
     }
 }
 
-// Reads the arguments of a command, the first of them behind its `-f`.
+// Reads the arguments of a command, the first of them behind its `-f`; then the rest.
 fn with_arguments(command: u32, force: bool) -> u8 {
     let mut first = io::buffer();
     let mut second = io::buffer();
-    let mut third = io::buffer();
-    let mut fourth = io::buffer();
     let a = arguments::argument_at(force, 2, 3, &mut first);
     let b = arguments::argument_at(force, 3, 4, &mut second);
+    with_rest(
+        command,
+        force,
+        paths::of_name(&first, a),
+        paths::of_name(&second, b),
+    )
+}
+
+fn with_rest(command: u32, force: bool, a: &[u8], b: &[u8]) -> u8 {
+    let mut third = io::buffer();
+    let mut fourth = io::buffer();
     let c = arguments::argument_at(force, 4, 5, &mut third);
     let d = arguments::argument_at(force, 5, 6, &mut fourth);
     work(
         command,
         force,
-        paths::of_name(&first, a),
-        paths::of_name(&second, b),
+        a,
+        b,
         paths::of_name(&third, c),
         paths::of_name(&fourth, d),
     )

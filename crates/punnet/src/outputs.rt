@@ -1,20 +1,16 @@
 // Files that are written, whole or not at all. What must not be replaced is tested before anything is read: a link is followed and stays,
 // only a plain file is replaced, and only one of the kind that is written, unless that is asked for.
+use crate::Facts;
+use crate::Part;
 use crate::arguments::NO_OPTION;
+use crate::commands::ACCEPTED;
 use crate::files;
 use crate::given;
 use crate::paths;
 use crate::seen;
-use crate::seen::Seen;
 use libc::STDOUT_FILENO;
 use writing::Line;
 use writing::Page;
-
-// A file that is being written: the length of its name, and its descriptor.
-struct Part {
-    length: usize,
-    file: i32,
-}
 
 // The kinds of file that are written, by the words for a file that holds something else.
 pub const IMAGE: u32 = 23;
@@ -60,7 +56,7 @@ fn holds(path: &[u8], kind: u32) -> bool {
     let contents = files::fill(file, &mut room);
     libc::close(file);
     let length = contents.length;
-    !contents.failed & are_of_kind(&room[..length], kind)
+    (contents.status == ACCEPTED) & are_of_kind(&room[..length], kind)
 }
 
 // Whether this user may write a plain file; else it is told.
@@ -105,7 +101,7 @@ fn is_new(path: &[u8]) -> bool {
 }
 
 // Whether a file is one of the two at most that are read.
-fn is_read(there: Seen, first: &[u8], second: &[u8]) -> bool {
+fn is_read(there: Facts, first: &[u8], second: &[u8]) -> bool {
     seen::same(there, files::look(first)) | seen::same(there, files::look(second))
 }
 
@@ -144,25 +140,22 @@ fn cut<'a>(path: &'a [u8]) -> &'a [u8] {
     parts::front(path, path.len() - MOST_BEHIND)
 }
 
-// Makes a new file: `.part` and a number behind the name that is meant.
-fn make(page: &mut Page, path: &[u8], k: u16) -> Part {
+// The name of a new file: `.part` and a number behind the one that is meant.
+fn put_part_name(page: &mut Page, path: &[u8], k: u16) -> usize {
     let base = writing::put(page, 0, cut(path));
-    let length = telling::part_number(Line::empty(), words::UNFINISHED, k as u64).onto(page, base);
-    Part {
-        length,
-        file: os::create(writing::held_on(page, length)),
-    }
+    telling::part_number(Line::empty(), words::UNFINISHED, k as u64).onto(page, base)
 }
 
 // Makes one beside the file that is meant. The first of its names that is taken is told.
 fn make_part(path: &[u8], page: &mut Page) -> Part {
     for k in 0..MOST_PARTS {
-        let part = make(page, path, k);
-        if (0 <= part.file) | (os::errno() != libc::EEXIST) {
-            return part;
+        let length = put_part_name(page, path, k);
+        let file = os::create(writing::held_on(page, length));
+        if (0 <= file) | (os::errno() != libc::EEXIST) {
+            return Part { length, file };
         }
         if k == 0 {
-            files::complain(writing::held_on(page, part.length), LEFT_OVER);
+            files::complain(writing::held_on(page, length), LEFT_OVER);
         }
     }
     Part {
@@ -172,7 +165,7 @@ fn make_part(path: &[u8], page: &mut Page) -> Part {
 }
 
 // Gives a new file the permissions of the one that it will replace, and its owner where the system lets that be.
-fn liken(file: i32, there: Seen) -> bool {
+fn liken(file: i32, there: Facts) -> bool {
     if !there.found {
         return true;
     }
@@ -181,7 +174,7 @@ fn liken(file: i32, there: Seen) -> bool {
 }
 
 // The bytes reach the file, and it is closed.
-fn store(file: i32, bytes: &[u8], there: Seen) -> bool {
+fn store(file: i32, bytes: &[u8], there: Facts) -> bool {
     if !io::write_all(file, bytes) {
         return false;
     }

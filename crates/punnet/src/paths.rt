@@ -63,17 +63,10 @@ pub fn ended(path: &[u8]) -> Name
     name
 }
 
-// Where a link leads: the length of what is put into `target`; 0 where the path is no link.
-fn read_link(path: &[u8], target: &mut Name) -> usize {
-    let name = ended(path);
-    let got = libc::readlink(&name, target);
-    io::count(got, target)
-}
-
-// The path with its last name replaced by what a link there says.
+// The path with its last name replaced by what a link there says; 0 where it says nothing.
 fn put_target(page: &mut Page, folder: usize, target: &[u8]) -> usize {
     if target.len() == 0 {
-        return folder;
+        return 0;
     }
     if target[0] == b'/' {
         return writing::put(page, 0, target);
@@ -83,13 +76,15 @@ fn put_target(page: &mut Page, folder: usize, target: &[u8]) -> usize {
 
 // Follows one link: how long the path on the page is then; 0 where it is no link.
 fn follow(page: &mut Page, length: usize) -> usize {
+    let path = ended(writing::held_on(page, length));
     let mut target = io::buffer();
-    let got = read_link(writing::held_on(page, length), &mut target);
-    if got == 0 {
-        return 0;
-    }
-    let folder = folder_length(writing::held_on(page, length));
-    put_target(page, folder, of_name(&target, got))
+    let got = libc::readlink(&path, &mut target);
+    let count = io::count(got, &target);
+    put_target(
+        page,
+        folder_length(of_name(&path, length)),
+        of_name(&target, count),
+    )
 }
 
 // Puts the path behind all links on a page, and answers its length.

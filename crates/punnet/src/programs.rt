@@ -1,7 +1,7 @@
 // A program, a text or an image, is read, and a command does its work on it.
+use crate::commands::ACCEPTED;
 use crate::commands::CHECK;
 use crate::commands::TRANSLATE;
-use crate::commands::TROUBLE;
 use crate::commands::TRY;
 use crate::files;
 use crate::given;
@@ -13,8 +13,8 @@ use crate::texts;
 pub fn work_on(command: u32, path: &[u8], events: &[u8], turns: u64, to: &[u8]) -> u8 {
     let mut room = io::large_buffer();
     let contents = files::read(path, &mut room);
-    if contents.failed {
-        return TROUBLE;
+    if contents.status != ACCEPTED {
+        return contents.status;
     }
     let file = given::of_buffer(&room, contents.length);
     match command {

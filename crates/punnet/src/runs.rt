@@ -11,6 +11,7 @@ use crate::programs;
 use crate::texts;
 use telling::refusals;
 use telling::trace;
+use tried::Tried;
 
 // The records of a run, at the front of a buffer.
 fn of_records<'a>(buffer: &'a Buffer, count: usize) -> &'a [u8] {
@@ -78,17 +79,29 @@ fn try_text(path: &[u8], text: &[u8], script: &[u8], turns: u64) -> u8 {
     let mut image = io::large_buffer();
     let mut records = io::large_buffer();
     let tried = tried::try_text(text, &mut image, script, turns, &mut records);
+    tell_tried(path, text, script, turns, &image, &records, tried)
+}
+
+fn tell_tried(
+    path: &[u8],
+    text: &[u8],
+    script: &[u8],
+    turns: u64,
+    image: &Buffer,
+    records: &Buffer,
+    tried: Tried,
+) -> u8 {
     let translated = tried.translated;
     if translated.number != 0 {
         return texts::refuse(path, text, translated.line, translated.number);
     }
     let ran = tried.ran;
-    let accepted = given::of_buffer(&image, translated.length);
+    let accepted = given::of_buffer(image, translated.length);
     let told = tell(
         text,
         accepted,
         script,
-        of_records(&records, ran.records),
+        of_records(records, ran.records),
         turns,
     );
     if told != ACCEPTED {

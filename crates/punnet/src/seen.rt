@@ -1,19 +1,9 @@
 // What the system knows of a file.
 ghost use Rattle.libc.specs.Io.{Ended};
+use crate::Facts;
 use crate::paths;
 use crate::paths::Name;
 use libc::types;
-
-// Whether there is a file, and whether it is a plain one; its permissions and owners; and the device and number that tell it from others.
-pub struct Seen {
-    pub found: bool,
-    pub plain: bool,
-    pub mode: u32,
-    pub owner: u32,
-    pub group: u32,
-    pub device: u64,
-    pub number: u64,
-}
 
 // Permissions are below this; the kind of a file is above.
 const KIND: u32 = 4096;
@@ -21,8 +11,8 @@ const KIND: u32 = 4096;
 const PLAIN: u32 = libc::S_IFREG / KIND;
 
 // No file.
-pub fn nothing() -> Seen {
-    Seen {
+pub fn nothing() -> Facts {
+    Facts {
         found: false,
         plain: false,
         mode: 0,
@@ -34,7 +24,7 @@ pub fn nothing() -> Seen {
 }
 
 // The same file, by whatever names.
-pub fn same(a: Seen, b: Seen) -> bool {
+pub fn same(a: Facts, b: Facts) -> bool {
     a.found & b.found & (a.device == b.device) & (a.number == b.number)
 }
 
@@ -47,9 +37,7 @@ fn moment() -> types::timespec {
 
 fn blank() -> types::stat {
     let unused = [0i64; 3];
-    let accessed = moment();
-    let modified = moment();
-    let changed = moment();
+    let never = moment();
     types::stat {
         st_dev: 0,
         st_ino: 0,
@@ -62,16 +50,16 @@ fn blank() -> types::stat {
         st_size: 0,
         st_blksize: 0,
         st_blocks: 0,
-        st_atim: accessed,
-        st_mtim: modified,
-        st_ctim: changed,
+        st_atim: never,
+        st_mtim: never,
+        st_ctim: never,
         __unused: unused,
     }
 }
 
-fn told(status: i32, s: types::stat) -> Seen {
+fn told(status: i32, s: types::stat) -> Facts {
     let mode = s.st_mode;
-    Seen {
+    Facts {
         found: status == 0,
         plain: mode / KIND == PLAIN,
         mode: mode % KIND,
@@ -84,7 +72,7 @@ fn told(status: i32, s: types::stat) -> Seen {
 
 // What the system says of the file with this name, links followed. The call writes over `s`. Its proof is by hand, as no other function lends
 // a struct; so there is nothing else in it.
-fn look(name: &Name, mut s: types::stat) -> Seen
+fn look(name: &Name, mut s: types::stat) -> Facts
     requires { ⌜ Ended (now name) ⌝ }
 {
     let status = libc::stat(name, &mut s);
@@ -92,7 +80,7 @@ fn look(name: &Name, mut s: types::stat) -> Seen
 }
 
 // The same of a path. One that is too long for the system names no file: cut, it would name another.
-pub fn look_at(path: &[u8]) -> Seen {
+pub fn look_at(path: &[u8]) -> Facts {
     if libc::PATH_MAX <= path.len() {
         return nothing();
     }

@@ -11,10 +11,33 @@ use telling::refusals;
 
 // Tells a refusal of a text: of the whole, or of its lines.
 pub fn refuse(path: &[u8], text: &[u8], line: usize, number: u8) -> u8 {
-    let mut page = writing::page();
-    let held = refusals::put_of_text(&mut page, path, text, line, number);
-    files::tell(&page, held);
+    if line == 0 {
+        return commands::refuse(path, refusals::of_whole(number));
+    }
+    let mut faults = writing::page();
+    let lines = refusals::put_faults(&mut faults, text);
+    refuse_lines(path, text, writing::held_on(&faults, lines))
+}
+
+// Tells the first faulty lines of a text, by the fault of each of its lines, 0 where it has none; and how many there are.
+fn refuse_lines(path: &[u8], text: &[u8], faults: &[u8]) -> u8 {
+    let mut count: usize = 0;
+    for i in 0..faults.len() {
+        count = refuse_line(path, text, i + 1, faults[i], count);
+    }
+    files::tell(refusals::counted_lines(count));
     REFUSED
+}
+
+// Tells the fault of a line behind so many faulty ones, where it has one and not enough are told; and how many there are then.
+fn refuse_line(path: &[u8], text: &[u8], line: usize, fault: u8, count: usize) -> usize {
+    if fault == 0 {
+        return count;
+    }
+    if count < refusals::MOST_SHOWN {
+        files::tell_of(path, refusals::of_line(text, line, fault));
+    }
+    telling::one_more(count)
 }
 
 // translate [-f] TEXT IMAGE

@@ -10,12 +10,12 @@ pub mod trace;
 use writing::Line;
 use writing::Page;
 
-// How far a run is told: the next turn, event and record, and what the page holds.
+// How far a run is told: the next turn, event and record, and the line before them.
 pub struct Mark {
     pub turn: usize,
     pub event: usize,
     pub record: usize,
-    pub held: usize,
+    pub line: Line,
 }
 
 // The column of what is wrong, from 1; the number of its words, 0 where there are none; and the key of the name that they speak of, or the
@@ -55,9 +55,9 @@ pub fn shown(mut line: Line, bytes: &[u8]) -> Line {
     line
 }
 
-// The name of a file, on a page.
-pub fn name(page: &mut Page, before: usize, path: &[u8]) -> usize {
-    let mut held = before;
+// The name of a file, at the beginning of a page.
+pub fn name(page: &mut Page, path: &[u8]) -> usize {
+    let mut held: usize = 0;
     for i in 0..path.len() {
         let mut line = Line::empty();
         line = plain(line, path[i]);
@@ -107,22 +107,13 @@ pub fn part_number(mut line: Line, n: u32, value: u64) -> Line {
     line.number(value)
 }
 
-// The bytes of the table of words from one place to before another.
-fn put_words(page: &mut Page, start: usize, end: usize) -> usize {
+// The bytes of the table of words from one place to before another, at the beginning of a page.
+pub fn put_words(page: &mut Page, start: usize, end: usize) -> usize {
     let mut held: usize = 0;
     for i in start..end {
         held = writing::put_byte(page, held, words::letter(i));
     }
     held
-}
-
-// The lines of the table that are for people, and the text on the tool's use.
-pub fn all_words(page: &mut Page) -> usize {
-    put_words(page, words::FIRST_FOR_PEOPLE, words::HELP)
-}
-
-pub fn help(page: &mut Page) -> usize {
-    put_words(page, words::HELP, words::SIZE)
 }
 
 // What the text on the tool's use says on one command; nothing where it tells of none with this number.
@@ -137,13 +128,12 @@ pub fn help_of(page: &mut Page, command: u32) -> usize {
     )
 }
 
-// What a number of an answer means: as a refusal, as an error and as an end.
-pub fn explain(page: &mut Page, number: u32) -> usize {
+// What a number of an answer means: as a refusal, as an error and as an end. Nothing for another number.
+pub fn explain(number: u32) -> Line {
     let mut line = Line::empty();
     line = explained(line, words::REFUSAL, number);
     line = explained(line, words::ERROR, number);
-    line = explained(line, words::END, number);
-    line.onto(page, 0)
+    explained(line, words::END, number)
 }
 
 // The line for a number of a kind, if there is one, and an example below it; an end needs none.
@@ -162,7 +152,7 @@ fn explained(mut line: Line, kind: u8, number: u32) -> Line {
 }
 
 // One more and one less, as far as turns, events, records and lines go.
-fn one_more(n: usize) -> usize {
+pub fn one_more(n: usize) -> usize {
     if n < MOST_COUNTED {
         return n + 1;
     }

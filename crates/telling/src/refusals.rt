@@ -6,7 +6,7 @@ use writing::Line;
 use writing::Page;
 
 // How many faulty lines of a text are shown.
-const MOST_SHOWN: usize = 10;
+pub const MOST_SHOWN: usize = 10;
 
 // How far lines of files and hints are set in.
 const SET_IN: usize = 4;
@@ -67,12 +67,6 @@ fn behind(mut line: Line, hint: Hint) -> Line {
     line
 }
 
-// A file's name, and a line behind it, behind what the page holds.
-pub fn put_behind(page: &mut Page, before: usize, path: &[u8], line: Line) -> usize {
-    let held = crate::name(page, before, path);
-    line.onto(page, held)
-}
-
 // What is said of a line by words from a place of their table on, with the line itself and a hint.
 fn shown(wrong: &[u8], line: usize, start: usize, hint: Hint) -> Line {
     let mut told = place(line, hint.column);
@@ -85,43 +79,19 @@ fn shown(wrong: &[u8], line: usize, start: usize, hint: Hint) -> Line {
 }
 
 // A refusal of a whole file.
-fn of_whole(number: u8) -> Line {
+pub fn of_whole(number: u8) -> Line {
     refusal(nowhere(), number)
 }
 
 // A refusal of a line of a text.
-fn of_line(text: &[u8], line: usize, number: u8) -> Line {
+pub fn of_line(text: &[u8], line: usize, number: u8) -> Line {
     let wrong = parts::line(text, line);
     let start = words::line_for(words::REFUSAL, number as u32);
     shown(wrong, line, start, hints::of_line(text, wrong, number))
 }
 
-// The fault of the line behind so many others, where it has one and not enough are shown.
-fn put_fault(
-    page: &mut Page,
-    held: usize,
-    path: &[u8],
-    text: &[u8],
-    line: usize,
-    fault: u8,
-    shown: usize,
-) -> usize {
-    if (fault == 0) | (MOST_SHOWN <= shown) {
-        return held;
-    }
-    put_behind(page, held, path, of_line(text, line, fault))
-}
-
-// How many lines are faulty, with one that has this fault or none.
-fn counted(count: usize, fault: u8) -> usize {
-    if fault == 0 {
-        return count;
-    }
-    crate::one_more(count)
-}
-
 // How many lines are faulty, where that is more than one; else nothing.
-fn counted_lines(count: usize) -> Line {
+pub fn counted_lines(count: usize) -> Line {
     let mut line = Line::empty();
     if count < 2 {
         return line;
@@ -138,26 +108,9 @@ fn said_of_count(count: usize) -> u32 {
     words::FAULTY
 }
 
-// The first faulty lines of a text, by the fault of each of its lines, 0 where it has none; and how many there are.
-fn put_faults(page: &mut Page, path: &[u8], text: &[u8], faults: &[u8]) -> usize {
-    let mut held: usize = 0;
-    let mut count: usize = 0;
-    for i in 0..faults.len() {
-        let fault = faults[i];
-        held = put_fault(page, held, path, text, i + 1, fault, count);
-        count = counted(count, fault);
-    }
-    counted_lines(count).onto(page, held)
-}
-
-// A refusal of a text: of the whole, or of its lines.
-pub fn put_of_text(page: &mut Page, path: &[u8], text: &[u8], line: usize, number: u8) -> usize {
-    if line == 0 {
-        return put_behind(page, 0, path, of_whole(number));
-    }
-    let mut faults = writing::page();
-    let lines = names::line_faults(text, &mut faults);
-    put_faults(page, path, text, writing::held_on(&faults, lines))
+// The fault of each line of a text, a byte a line, 0 where it has none; and how many lines there are.
+pub fn put_faults(faults: &mut Page, text: &[u8]) -> usize {
+    names::line_faults(text, faults)
 }
 
 // A refusal of an image, with what was given in its place.
@@ -211,18 +164,6 @@ fn of_script(script: &[u8], line: usize, fault: u8) -> Line {
 }
 
 // What is wrong with a word or a file that was given.
-pub fn put_of_use(page: &mut Page, given: &[u8], number: u32) -> usize {
-    let held = put_trouble(page, given);
-    let mut told = nowhere();
-    told = crate::meaning(told, words::USAGE, number);
-    told = told.end();
-    told.onto(page, held)
-}
-
-// The tool's name and a file's, for what the system says of it.
-pub fn put_trouble(page: &mut Page, path: &[u8]) -> usize {
-    let mut told = Line::empty();
-    told = crate::part(told, words::PUNNET);
-    let held = told.onto(page, 0);
-    crate::name(page, held, path)
+pub fn of_use(number: u32) -> Line {
+    crate::meaning(nowhere(), words::USAGE, number).end()
 }

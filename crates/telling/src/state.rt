@@ -27,8 +27,7 @@ fn value(mut line: Line, image: &[u8], number: u8, value: i32) -> Line {
 }
 
 // The position, and whether the axis moves.
-fn position(position: i32, motion: u8, value: i32) -> Line {
-    let mut line = Line::empty();
+fn position(mut line: Line, position: i32, motion: u8, value: i32) -> Line {
     line = crate::part(line, words::POSITION);
     line = line.signed(position);
     line = crate::meaning(line, words::MOTION, motion as u32);
@@ -81,29 +80,28 @@ fn put_changes(page: &mut Page, before: usize, image: &[u8], now: &[i32], start:
 }
 
 // Why a run ended, and after how many turns and records.
-pub fn put_end(page: &mut Page, held: usize, reason: u8, turns: u64, records: usize) -> usize {
+pub fn ended(reason: u8, turns: u64, records: usize) -> Line {
     let mut line = Line::empty();
     line = crate::words(line, words::END, reason as u32);
     line = line.end();
     line = crate::part_number(line, words::TURNS, turns);
     line = line.end();
     line = crate::part_number(line, words::RECORDS, records as u64);
-    line = line.end();
-    line.onto(page, held)
+    line.end()
 }
 
-// The state at the end: the position, the motion, the outputs, and each value that is not the one at the start.
+// That, and the state at the end: the position, the motion, the outputs, and each value that is not the one at the start.
 pub fn put(
     page: &mut Page,
-    held: usize,
+    ended: Line,
     image: &[u8],
     motion: u8,
     value: i32,
     variables: &[i32],
     start: &[i32],
 ) -> usize {
-    let mut line = position(value_of(variables, POSITION), motion, value);
+    let mut line = position(ended, value_of(variables, POSITION), motion, value);
     line = outputs(line, image, variables);
-    let at = line.onto(page, held);
-    put_changes(page, at, image, variables, start)
+    let held = line.onto(page, 0);
+    put_changes(page, held, image, variables, start)
 }

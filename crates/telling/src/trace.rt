@@ -160,45 +160,37 @@ fn recorded(mut line: Line, image: &[u8], record: Event) -> Line {
 }
 
 // An event of the turn that is next.
-fn put_event(page: &mut Page, mark: Mark, events: &[u8]) -> Mark {
+fn event_next(mark: Mark, events: &[u8]) -> Mark {
     Mark {
         turn: mark.turn,
         event: crate::one_more(mark.event),
         record: mark.record,
-        held: event_line(entry(events, mark.event)).onto(page, mark.held),
+        line: event_line(entry(events, mark.event)),
     }
 }
 
 // A turn or a stay at one place, up to before another turn.
-fn put_turn(
-    page: &mut Page,
-    mark: Mark,
-    end: usize,
-    mut line: Line,
-    image: &[u8],
-    records: &[u8],
-) -> Mark {
+fn turn_next(mark: Mark, end: usize, mut line: Line, image: &[u8], records: &[u8]) -> Mark {
     let mut record = mark.record;
     if turn_of(records, record) == mark.turn {
         line = recorded(line, image, entry(records, record));
         record = crate::one_more(record);
     }
-    line = line.end();
     Mark {
         turn: end,
         event: mark.event,
         record,
-        held: line.onto(page, mark.held),
+        line: line.end(),
     }
 }
 
 // A record with its turn, where those alone are told; they are counted as turns.
-fn put_record(page: &mut Page, mark: Mark, image: &[u8], records: &[u8]) -> Mark {
+fn record_next(mark: Mark, image: &[u8], records: &[u8]) -> Mark {
     Mark {
         turn: crate::one_more(mark.turn),
         event: mark.event,
         record: mark.record,
-        held: record_line(image, entry(records, mark.turn)).onto(page, mark.held),
+        line: record_line(image, entry(records, mark.turn)),
     }
 }
 
@@ -211,8 +203,7 @@ fn record_line(image: &[u8], record: Event) -> Line {
 }
 
 // What is next of a run: an event, or else a turn or a stay; a record where no places are given.
-pub fn put_next(
-    page: &mut Page,
+pub fn next(
     mark: Mark,
     text: &[u8],
     image: &[u8],
@@ -223,25 +214,33 @@ pub fn put_next(
     turns: usize,
 ) -> Mark {
     if visits.len() == 0 {
-        return put_record(page, mark, image, records);
+        return record_next(mark, image, records);
     }
     let event = turn_of(events, mark.event);
     if event == mark.turn {
-        return put_event(page, mark, events);
+        return event_next(mark, events);
     }
     let record = turn_of(records, mark.record);
     let end = stay_end(visits, turns, mark.turn, record, event);
     let number = listed(cells, listed(visits, mark.turn));
     let row = row(text, number, mark.turn, end);
-    put_turn(page, mark, end, row, image, records)
+    turn_next(mark, end, row, image, records)
 }
 
-// A run begins with a header, where its places are given.
-pub fn put_header(page: &mut Page, visits: &[u8]) -> usize {
-    if visits.len() == 0 {
-        return 0;
+// Before the first turn stands a header, where the places of a run are given.
+pub fn start(visits: &[u8]) -> Mark {
+    Mark {
+        turn: 0,
+        event: 0,
+        record: 0,
+        line: header(visits.len() == 0),
     }
-    crate::part(Line::empty(), words::HEADER)
-        .end()
-        .onto(page, 0)
+}
+
+fn header(is_left_out: bool) -> Line {
+    let line = Line::empty();
+    if is_left_out {
+        return line;
+    }
+    crate::part(line, words::HEADER).end()
 }

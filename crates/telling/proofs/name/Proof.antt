@@ -6,10 +6,10 @@ use Rattle.telling.proofs.name.Statement.{statement}
 use Rattle.telling.proofs.name.Tie as tie
 
 abbrev Inv-loop : tie.InvT-loop
-Inv-loop page₀ before path held₀ i₀ i-end page held i = Unit {0}
+Inv-loop page₀ path held₀ i₀ i-end page held i = Unit {0}
 
 abbrev μ-loop : tie.MeasureT-loop
-μ-loop page₀ before path held₀ i₀ i-end page held i = i-end - i
+μ-loop page₀ path held₀ i₀ i-end page held i = i-end - i
 
 pub name-spec : {M : Type 1} → statement M
 name-spec =

@@ -15,4 +15,4 @@ pub make-part-spec : {M : Type 1} → statement M
 make-part-spec =
     tie.close
     (tie.spec Inv-loop μ-loop (search needs) (search needs) (search needs) (search needs) (search needs) (search needs) (search needs)
-    (search needs) (search needs) (search needs))
+    (search needs) (search needs) (search needs) (search needs) (search needs))

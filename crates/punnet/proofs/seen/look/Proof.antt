@@ -50,8 +50,8 @@ use Rattle.libc.proofs.stat as stat
 use Rattle.libc.proofs.stat.Symbol as stat-def
 use Rattle.libc.proofs.stat.Symbol.{name as #libc·stat}
 use Rattle.libc.proofs.stat.Met as stat-thm
-use Rattle.punnet.proofs.seen.Seen as R
-use Rattle.punnet.proofs.seen.Seen.Laws as R′
+use Rattle.punnet.proofs.Facts as R
+use Rattle.punnet.proofs.Facts.Laws as R′
 use Rattle.punnet.proofs.seen.told as told
 use Rattle.punnet.proofs.seen.told.Symbol as told-def
 use Rattle.punnet.proofs.seen.told.Symbol.{name as #seen·told}
