@@ -2,7 +2,8 @@
 use bench::Ran;
 use bench::State;
 use libc::STDOUT_FILENO;
-use writing::Line;
+use parts::Line;
+use parts::writing;
 ghost use Prim.Native.Nat.{_≤_};
 
 // What a lent buffer is filled with before a call.

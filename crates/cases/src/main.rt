@@ -4,7 +4,7 @@ mod line;
 
 use libc::STDIN_FILENO;
 use libc::STDOUT_FILENO;
-use writing::Line;
+use parts::Line;
 
 const HEADER_SIZE: usize = 20;
 

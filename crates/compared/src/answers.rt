@@ -5,7 +5,7 @@
 use crate::described;
 use crate::input;
 use crate::words;
-use writing::Line;
+use parts::Line;
 
 const ROOM: usize = 65536;
 

@@ -6,7 +6,7 @@ use crate::words;
 use bench::Ran;
 use bench::State;
 use events::Event;
-use writing::Line;
+use parts::Line;
 
 const NO_HANDLER: u64 = 65535;
 

@@ -2,14 +2,15 @@
 //
 // What is made is put on a page. A page that is full is broken, and stays so: something did not fit, or a line said something wrong.
 use crate::words;
+use parts::Line;
+use parts::Page;
+use parts::writing;
 use scripts::BAD_FORM;
 use scripts::BIG_NUMBER;
-use writing::Line;
-use writing::Page;
 ghost use Prim.Native.Nat.{_<_};
 ghost use lib.ListN.{length};
 
-pub const BROKEN: usize = writing::PAGE;
+pub const BROKEN: usize = parts::PAGE;
 
 // The words that a line starts with, by number.
 const SILENT: usize = 0;
@@ -242,7 +243,7 @@ fn repeat(page: &mut Page, before: usize, line: Line, times: u64) -> usize {
     for _ in 0..times {
         held = line.onto(page, held);
     }
-    unless(line.held == writing::LINE, held)
+    unless(line.held == parts::LINE, held)
 }
 
 // The bytes that a line says. A line that is full is broken.
@@ -305,7 +306,7 @@ fn if_right(right: bool, line: Line) -> Line {
 }
 
 fn broken() -> Line {
-    Line::empty().repeated(b'?', writing::LINE)
+    Line::empty().repeated(b'?', parts::LINE)
 }
 
 // The value of a hexadecimal digit; 16 where a byte is none.

@@ -7,7 +7,8 @@ mod words;
 
 use libc::STDIN_FILENO;
 use libc::STDOUT_FILENO;
-use writing::Line;
+use parts::Line;
+use parts::writing;
 
 // How many cases there were, and how many of them agree.
 struct Count {

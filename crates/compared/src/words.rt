@@ -1,6 +1,6 @@
 // The words of the input and of the answers, and what is said of a case: a table of letters in columns of eight. A word ends at a full stop,
 // and may take several columns.
-use writing::Line;
+use parts::Line;
 
 const SIZE: usize = 640;
 

@@ -1,4 +1,19 @@
-// Parts of bytes: lines of a text, and words of a line.
+// Bytes taken apart, into lines of a text and words of a line; and bytes put together.
+pub mod writing;
+
+// How many bytes a line and a page that are put together have room for.
+pub const LINE: usize = 2048;
+
+pub const PAGE: usize = 65536;
+
+pub struct Line {
+    pub bytes: Room,
+    pub held: usize,
+}
+
+pub type Room = [u8; LINE];
+
+pub type Page = [u8; PAGE];
 
 // The first so many bytes; none where there are fewer.
 pub fn front<'a>(bytes: &'a [u8], count: usize) -> &'a [u8] {
@@ -55,7 +70,7 @@ pub fn same(a: &[u8], b: &[u8]) -> bool {
 }
 
 // The line of a text with this number, from 1, without its ending; empty where there is none.
-pub fn line<'a>(text: &'a [u8], number: usize) -> &'a [u8] {
+pub fn line_of<'a>(text: &'a [u8], number: usize) -> &'a [u8] {
     let mut at: usize = 0;
     let mut k: usize = 1;
     while at < text.len() {

@@ -1,14 +1,16 @@
 // What the commands share: statuses, refusals, and pages.
 use crate::files;
+use crate::given;
 use crate::outputs;
 use crate::paths;
 use bench::Ran;
 use libc::STDERR_FILENO;
 use libc::STDOUT_FILENO;
+use parts::Line;
+use parts::Page;
+use parts::writing;
 use telling::state;
 use telling::trace;
-use writing::Line;
-use writing::Page;
 
 // What the tool ends with, as a digit.
 pub const ACCEPTED: u8 = b'0';
@@ -102,14 +104,11 @@ fn put_help(page: &mut Page, word: &[u8]) -> usize {
 
 // The number of an answer that a word is.
 fn number_in(word: &[u8]) -> u32 {
-    let number = scripts::digits(word);
-    if number.fault != scripts::NO_FAULT {
+    let number = given::number(word);
+    if NO_NUMBER as u64 <= number {
         return NO_NUMBER;
     }
-    if NO_NUMBER as u64 <= number.size {
-        return NO_NUMBER;
-    }
-    number.size as u32
+    number as u32
 }
 
 // Tells a refusal of what was given.
@@ -169,7 +168,7 @@ pub fn tell_end(to: &[u8], image: &[u8], ran: Ran) -> u8 {
     done_with(to, &page, held)
 }
 
-// Tells a run page by page: its turns, by the cells that they visit and the lines of those; or where none are visited only its records.
+// Tells a run page by page: its turns, by the cells that they visit; or where none are visited only its records.
 pub fn tell_run(
     to: &[u8],
     text: &[u8],
@@ -177,7 +176,6 @@ pub fn tell_run(
     events: &[u8],
     records: &[u8],
     visits: &[u8],
-    cells: &[u8],
     turns: usize,
 ) -> u8 {
     let mut page = writing::page();
@@ -195,7 +193,7 @@ pub fn tell_run(
             }
             held = 0;
         }
-        mark = trace::next(mark, text, image, events, records, visits, cells, turns);
+        mark = trace::next(mark, text, image, events, records, visits, turns);
     }
     done_with(to, &page, held)
 }

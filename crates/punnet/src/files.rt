@@ -7,8 +7,9 @@ use crate::paths;
 use crate::seen;
 use libc::STDERR_FILENO;
 use libc::STDIN_FILENO;
+use parts::Line;
+use parts::writing;
 use telling::refusals;
-use writing::Line;
 ghost use Rattle.io.specs.Counts.{Counts};
 
 // Writes a line to standard error.

@@ -10,8 +10,8 @@ use telling::refusals;
 // The most turns that a run may take.
 pub const MOST_TURNS: u64 = 4096;
 
-// What is said of a word that is no number of turns.
-pub const NO_TURNS: u64 = u64::MAX;
+// What a word is that is no number.
+pub const NO_NUMBER: u64 = u64::MAX;
 
 // The longest file of events that is read.
 const ROOM: usize = 262144;
@@ -28,19 +28,24 @@ pub fn of_buffer<'a>(buffer: &'a Buffer, length: usize) -> &'a [u8] {
     parts::front(buffer, length)
 }
 
-// The number of turns that a word gives; the most where there is no word. Digits without end are more than any run may take.
-pub fn turns(word: &[u8]) -> u64 {
-    if word.len() == 0 {
-        return MOST_TURNS;
-    }
+// The number that a word is. Digits without end are more than any run may take turns.
+pub fn number(word: &[u8]) -> u64 {
     let number = scripts::digits(word);
     if number.fault == scripts::BIG_NUMBER {
         return MOST_TURNS + 1;
     }
     if number.fault != scripts::NO_FAULT {
-        return NO_TURNS;
+        return NO_NUMBER;
     }
     number.size
+}
+
+// The number of turns that a word gives; the most where there is no word.
+pub fn turns(word: &[u8]) -> u64 {
+    if word.len() == 0 {
+        return MOST_TURNS;
+    }
+    number(word)
 }
 
 // Reads the events that a run is given; no name and `-` mean none.
@@ -75,14 +80,14 @@ fn of_room<'a>(room: &'a Room, length: usize) -> &'a [u8] {
 
 fn of_file(path: &[u8], file: &[u8], bytes: &mut Buffer) -> Contents {
     let read = scripts::read(file, bytes);
-    let events = of_buffer(bytes, read.length);
-    if (read.fault == scripts::NO_FAULT) & are_events(events) {
+    let length = read.length;
+    let told = refusals::of_events(file, of_buffer(bytes, length), read.line, read.fault);
+    if told.held == 0 {
         return Contents {
-            length: read.length,
+            length,
             status: ACCEPTED,
         };
     }
-    let told = refusals::of_events(file, events, read.line, read.fault);
     files::nothing(commands::refuse(path, told))
 }
 

@@ -85,30 +85,21 @@ fn work(command: u32, force: bool, a: &[u8], b: &[u8], c: &[u8], d: &[u8]) -> u8
     }
 }
 
-// Reads the arguments of a command, the first of them behind its `-f`; then the rest.
+// Reads the arguments of a command, the first of them behind its `-f`.
 fn with_arguments(command: u32, force: bool) -> u8 {
     let mut first = io::buffer();
     let mut second = io::buffer();
-    let a = arguments::argument_at(force, 2, 3, &mut first);
-    let b = arguments::argument_at(force, 3, 4, &mut second);
-    with_rest(
-        command,
-        force,
-        paths::of_name(&first, a),
-        paths::of_name(&second, b),
-    )
-}
-
-fn with_rest(command: u32, force: bool, a: &[u8], b: &[u8]) -> u8 {
     let mut third = io::buffer();
     let mut fourth = io::buffer();
+    let a = arguments::argument_at(force, 2, 3, &mut first);
+    let b = arguments::argument_at(force, 3, 4, &mut second);
     let c = arguments::argument_at(force, 4, 5, &mut third);
     let d = arguments::argument_at(force, 5, 6, &mut fourth);
     work(
         command,
         force,
-        a,
-        b,
+        paths::of_name(&first, a),
+        paths::of_name(&second, b),
         paths::of_name(&third, c),
         paths::of_name(&fourth, d),
     )

@@ -9,8 +9,9 @@ use crate::given;
 use crate::paths;
 use crate::seen;
 use libc::STDOUT_FILENO;
-use writing::Line;
-use writing::Page;
+use parts::Line;
+use parts::Page;
+use parts::writing;
 
 // The kinds of file that are written, by the words for a file that holds something else.
 pub const IMAGE: u32 = 23;

@@ -1,7 +1,8 @@
 // Names of files, as the system takes them.
 ghost use Rattle.libc.specs.Io.{Ended};
 use libc::PATH_MAX;
-use writing::Page;
+use parts::Page;
+use parts::writing;
 
 // The room for a name. One that fills it is too long, and names no file.
 pub type Name = [u8; PATH_MAX];

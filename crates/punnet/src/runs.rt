@@ -11,7 +11,6 @@ use crate::programs;
 use crate::texts;
 use telling::refusals;
 use telling::trace;
-use tried::Tried;
 
 // The records of a run, at the front of a buffer.
 fn of_records<'a>(buffer: &'a Buffer, count: usize) -> &'a [u8] {
@@ -24,8 +23,7 @@ fn of_records<'a>(buffer: &'a Buffer, count: usize) -> &'a [u8] {
 // try TEXT [EVENTS] [TURNS]: a lone word of digits behind the text is the turns.
 pub fn try_command(path: &[u8], events: &[u8], turns: &[u8]) -> u8 {
     let none = &path[..0];
-    let number = scripts::digits(events);
-    if (turns.len() == 0) & (number.fault != scripts::BAD_FORM) {
+    if (turns.len() == 0) & (given::number(events) != given::NO_NUMBER) {
         return run_command(TRY, path, none, events, none, false);
     }
     run_command(TRY, path, events, turns, none, false)
@@ -41,7 +39,7 @@ pub fn run_command(
     force: bool,
 ) -> u8 {
     let turns = given::turns(word);
-    if turns == given::NO_TURNS {
+    if turns == given::NO_NUMBER {
         return files::complain(word, commands::NO_TURNS);
     }
     if given::MOST_TURNS < turns {
@@ -69,61 +67,49 @@ pub fn on_events(
     }
     let script = given::of_buffer(&bytes, read.length);
     if is_text {
-        return try_text(path, file, script, turns);
+        return try_text(path, file, script, turns, to);
     }
     run_image(path, file, script, turns, to)
 }
 
 // Tries a text on events, and tells how it went. Events and turns that a run refuses are told before.
-fn try_text(path: &[u8], text: &[u8], script: &[u8], turns: u64) -> u8 {
+fn try_text(path: &[u8], text: &[u8], script: &[u8], turns: u64, to: &[u8]) -> u8 {
     let mut image = io::large_buffer();
     let mut records = io::large_buffer();
     let tried = tried::try_text(text, &mut image, script, turns, &mut records);
-    tell_tried(path, text, script, turns, &image, &records, tried)
-}
-
-fn tell_tried(
-    path: &[u8],
-    text: &[u8],
-    script: &[u8],
-    turns: u64,
-    image: &Buffer,
-    records: &Buffer,
-    tried: Tried,
-) -> u8 {
     let translated = tried.translated;
     if translated.number != 0 {
         return texts::refuse(path, text, translated.line, translated.number);
     }
     let ran = tried.ran;
-    let accepted = given::of_buffer(image, translated.length);
+    let accepted = given::of_buffer(&image, translated.length);
     let told = tell(
+        to,
         text,
         accepted,
         script,
-        of_records(records, ran.records),
+        of_records(&records, ran.records),
         turns,
     );
     if told != ACCEPTED {
         return told;
     }
-    commands::tell_end(&text[..0], accepted, ran)
+    commands::tell_end(to, accepted, ran)
 }
 
 // Tells the run of a text turn by turn.
-fn tell(text: &[u8], image: &[u8], script: &[u8], records: &[u8], turns: u64) -> u8 {
-    let mut cells = io::large_buffer();
+fn tell(to: &[u8], text: &[u8], image: &[u8], script: &[u8], records: &[u8], turns: u64) -> u8 {
+    let mut again = io::large_buffer();
     let mut visits = io::large_buffer();
-    let taken = tried::visit_text(text, &mut cells, script, turns, &mut visits);
-    trace::put_cells(&mut cells, text);
+    let taken = tried::visit_text(text, &mut again, script, turns, &mut visits);
+    trace::put_lines(&mut visits, text);
     commands::tell_run(
-        &text[..0],
+        to,
         text,
         image,
         script,
         records,
-        given::of_buffer(&visits, 65536),
-        given::of_buffer(&cells, 65536),
+        given::of_buffer(&visits, parts::PAGE),
         taken,
     )
 }
@@ -147,5 +133,5 @@ fn keep(to: &[u8], image: &[u8], records: &[u8], count: usize) -> u8 {
         return TROUBLE;
     }
     let none = &to[..0];
-    commands::tell_run(to, none, image, none, records, none, none, count)
+    commands::tell_run(to, none, image, none, records, none, count)
 }

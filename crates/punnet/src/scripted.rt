@@ -4,7 +4,7 @@ use crate::commands::ACCEPTED;
 use crate::commands::TROUBLE;
 use crate::given;
 use crate::outputs;
-use writing::Line;
+use parts::Line;
 
 // events [-f] SCRIPT EVENTS
 pub fn events_command(path: &[u8], to: &[u8], force: bool) -> u8 {

@@ -7,6 +7,7 @@ use crate::files;
 use crate::given;
 use crate::outputs;
 use crate::programs;
+use parts::writing;
 use telling::refusals;
 
 // Tells a refusal of a text: of the whole, or of its lines.

@@ -7,8 +7,9 @@ mod runs;
 pub mod state;
 pub mod trace;
 
-use writing::Line;
-use writing::Page;
+use parts::Line;
+use parts::Page;
+use parts::writing;
 
 // How far a run is told: the next turn, event and record, and the line before them.
 pub struct Mark {

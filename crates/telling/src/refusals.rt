@@ -2,8 +2,8 @@
 use crate::Hint;
 use crate::given;
 use crate::hints;
-use writing::Line;
-use writing::Page;
+use parts::Line;
+use parts::Page;
 
 // How many faulty lines of a text are shown.
 pub const MOST_SHOWN: usize = 10;
@@ -85,7 +85,7 @@ pub fn of_whole(number: u8) -> Line {
 
 // A refusal of a line of a text.
 pub fn of_line(text: &[u8], line: usize, number: u8) -> Line {
-    let wrong = parts::line(text, line);
+    let wrong = parts::line_of(text, line);
     let start = words::line_for(words::REFUSAL, number as u32);
     shown(wrong, line, start, hints::of_line(text, wrong, number))
 }
@@ -119,7 +119,8 @@ pub fn of_image(image: &[u8], number: u8) -> Line {
     hinted(of_whole(number), hint)
 }
 
-// A refusal of events that a file gives, as bytes or as a script: the fault of a line, if there is one; of them all; or of one.
+// A refusal of events that a file gives, as bytes or as a script: the fault of a line, if there is one; of them all; or of one. Nothing where
+// a run takes them.
 pub fn of_events(file: &[u8], events: &[u8], line: usize, fault: u8) -> Line {
     if fault != scripts::NO_FAULT {
         return of_script(file, line, fault);
@@ -127,6 +128,9 @@ pub fn of_events(file: &[u8], events: &[u8], line: usize, fault: u8) -> Line {
     let index = given::first_refused(events);
     if index == given::NO_EVENTS {
         return of_whole(BAD_SCRIPT);
+    }
+    if index == events::script::event_count(events) {
+        return Line::empty();
     }
     if scripts::is_bytes(file) {
         return of_event(events, index);
@@ -144,7 +148,7 @@ fn of_event(events: &[u8], index: usize) -> Line {
 
 // A bad event on a line of a script, and why it is bad.
 fn of_event_on(script: &[u8], line: usize, events: &[u8], index: usize) -> Line {
-    let wrong = parts::line(script, line);
+    let wrong = parts::line_of(script, line);
     let start = words::line_for(words::REFUSAL, BAD_EVENT as u32);
     let hint = given::on_line(wrong, given::fault(events, index));
     shown(wrong, line, start, hint)
@@ -157,7 +161,7 @@ pub fn of_turns() -> Line {
 
 // A fault of a script, with its line.
 fn of_script(script: &[u8], line: usize, fault: u8) -> Line {
-    let wrong = parts::line(script, line);
+    let wrong = parts::line_of(script, line);
     let place = scripts::place_of_fault(parts::code(wrong), fault);
     let start = words::meaning_for(words::SCRIPT, fault as u32);
     shown(wrong, line, start, hints::at(place, 0, 0))

@@ -1,7 +1,7 @@
 // The end of a run told: why and when it ended, and the state that it left.
+use parts::Line;
+use parts::Page;
 use program::Variable;
-use writing::Line;
-use writing::Page;
 
 // How many variables a state has; the position and the outputs among them.
 const VARIABLES: usize = 64;

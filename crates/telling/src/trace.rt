@@ -3,8 +3,9 @@ use crate::Mark;
 use crate::state;
 use events::Event;
 use events::Record;
-use writing::Line;
-use writing::Page;
+use parts::Line;
+use parts::Page;
+use parts::writing;
 
 // The columns: turns, lines and statements, and what stands between two of them.
 const TURN_WIDTH: usize = 9;
@@ -22,7 +23,7 @@ const RECORD_COLUMN: usize = TURN_WIDTH + GAP + LINE_WIDTH + GAP + STATEMENT_WID
 const BEFORE_DASH: usize = TURN_WIDTH - 1;
 
 // A page that holds this much is full: it has room for one line.
-pub const FULL: usize = writing::PAGE - writing::LINE;
+pub const FULL: usize = parts::PAGE - parts::LINE;
 
 // No turn has this number.
 const NO_TURN: usize = 4294967296;
@@ -30,20 +31,31 @@ const NO_TURN: usize = 4294967296;
 // How many cells a text makes at the most.
 const CELLS: usize = 256;
 
-// For each cell of a text the number of its line, in two bytes.
-pub fn put_cells(cells: &mut Page, text: &[u8]) {
+// Behind the cells that a run visits, one a turn, stand the lines of all cells, each number in two bytes: so many of them come before.
+const LINES: usize = 8192;
+
+// Puts the number of each cell's line behind the cells that a run visits.
+pub fn put_lines(visits: &mut Page, text: &[u8]) {
     for place in 0..CELLS {
         let found = translation::line_of(text, place as u16);
-        numbers::write(cells, place * 2, 2, found.line as u64);
+        numbers::write(visits, (LINES + place) * 2, 2, found.line as u64);
     }
 }
 
-// A number of two bytes by its place in a list, which has no more of them than a run has turns.
-fn listed(bytes: &[u8], k: usize) -> usize {
-    if Event::MOST < k {
+// A number of those by its place among them.
+fn listed(visits: &[u8], k: usize) -> usize {
+    if LINES + CELLS <= k {
         return 0;
     }
-    numbers::read2(bytes, k * 2) as usize
+    numbers::read2(visits, k * 2) as usize
+}
+
+// The line of a cell.
+fn line_of(visits: &[u8], cell: usize) -> usize {
+    if CELLS <= cell {
+        return 0;
+    }
+    listed(visits, LINES + cell)
 }
 
 // A record or an event by its number; none has a number above the most.
@@ -142,7 +154,7 @@ fn record_in_words(mut line: Line, image: &[u8], record: Event) -> Line {
 
 // The statement of a turn or of a stay at a line of a text, with its turns and the line's number.
 fn row(text: &[u8], number: usize, turn: usize, end: usize) -> Line {
-    let statement = parts::uncommented(parts::line(text, number));
+    let statement = parts::uncommented(parts::line_of(text, number));
     let mut line = turns_of(turn as u64, crate::one_less(end) as u64);
     line = line.spaces(GAP);
     line = line.number_to(number as u64, LINE_WIDTH);
@@ -210,7 +222,6 @@ pub fn next(
     events: &[u8],
     records: &[u8],
     visits: &[u8],
-    cells: &[u8],
     turns: usize,
 ) -> Mark {
     if visits.len() == 0 {
@@ -222,7 +233,7 @@ pub fn next(
     }
     let record = turn_of(records, mark.record);
     let end = stay_end(visits, turns, mark.turn, record, event);
-    let number = listed(cells, listed(visits, mark.turn));
+    let number = line_of(visits, listed(visits, mark.turn));
     let row = row(text, number, mark.turn, end);
     turn_next(mark, end, row, image, records)
 }

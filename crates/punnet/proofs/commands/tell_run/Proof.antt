@@ -6,10 +6,10 @@ use Rattle.punnet.proofs.commands.tell_run.Statement.{statement}
 use Rattle.punnet.proofs.commands.tell_run.Tie as tie
 
 abbrev Inv-loop : tie.InvT-loop
-Inv-loop to text image events records visits cells turns page₀ held₀ mark₀ counter₀ page held mark counter = Unit {0}
+Inv-loop to text image events records visits turns page₀ held₀ mark₀ counter₀ page held mark counter = Unit {0}
 
 abbrev μ-loop : tie.MeasureT-loop
-μ-loop to text image events records visits cells turns page₀ held₀ mark₀ counter₀ page held mark counter = 65535 - counter
+μ-loop to text image events records visits turns page₀ held₀ mark₀ counter₀ page held mark counter = 65535 - counter
 
 pub tell-run-spec : {M : Type 1} → statement M
 tell-run-spec =

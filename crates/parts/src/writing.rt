@@ -3,19 +3,11 @@
 //
 // A function that adds to a page takes how many bytes the page holds, `held`, and answers how many it holds then.
 
-// How many bytes a line and a page have room for.
-pub const LINE: usize = 2048;
-
-pub const PAGE: usize = 65536;
-
-pub struct Line {
-    pub bytes: Room,
-    pub held: usize,
-}
-
-pub type Room = [u8; LINE];
-
-pub type Page = [u8; PAGE];
+use crate::LINE;
+use crate::Line;
+use crate::PAGE;
+use crate::Page;
+use crate::Room;
 
 // No number has more digits.
 const MOST_DIGITS: usize = 20;
@@ -144,7 +136,7 @@ impl Line {
 
 // What the bytes of a line hold.
 pub fn held_in<'a>(bytes: &'a Room, held: usize) -> &'a [u8] {
-    parts::front(bytes, held)
+    crate::front(bytes, held)
 }
 
 pub fn page() -> Page {
@@ -153,7 +145,7 @@ pub fn page() -> Page {
 
 // What a page holds.
 pub fn held_on<'a>(page: &'a Page, held: usize) -> &'a [u8] {
-    parts::front(page, held)
+    crate::front(page, held)
 }
 
 // Adds a byte to a page.

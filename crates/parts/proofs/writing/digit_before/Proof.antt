@@ -2,8 +2,8 @@
 -- Assumes nothing.
 use Prim.Native.Nat.{_-_}
 use borrow.Author.Needs.{needs}
-use Rattle.writing.proofs.digit_before.Statement.{statement}
-use Rattle.writing.proofs.digit_before.Tie as tie
+use Rattle.parts.proofs.writing.digit_before.Statement.{statement}
+use Rattle.parts.proofs.writing.digit_before.Tie as tie
 
 abbrev Inv-loop : tie.InvT-loop
 Inv-loop n behind rest₀ counter₀ rest counter = Unit {0}

@@ -2,8 +2,8 @@
 -- Assumes nothing.
 use Prim.Native.Nat.{_-_}
 use borrow.Author.Needs.{needs}
-use Rattle.writing.proofs.Line.field.Statement.{statement}
-use Rattle.writing.proofs.Line.field.Tie as tie
+use Rattle.parts.proofs.Line.field.Statement.{statement}
+use Rattle.parts.proofs.Line.field.Tie as tie
 
 abbrev Inv-loop : tie.InvT-loop
 Inv-loop self₀ n width rest₀ counter₀ self rest counter = Unit {0}

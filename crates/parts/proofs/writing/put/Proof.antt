@@ -2,8 +2,8 @@
 -- Assumes nothing.
 use Prim.Native.Nat.{_-_}
 use borrow.Author.Needs.{needs}
-use Rattle.writing.proofs.put.Statement.{statement}
-use Rattle.writing.proofs.put.Tie as tie
+use Rattle.parts.proofs.writing.put.Statement.{statement}
+use Rattle.parts.proofs.writing.put.Tie as tie
 
 abbrev Inv-loop : tie.InvT-loop
 Inv-loop page₀ held values at₀ i₀ i-end page at i = Unit {0}

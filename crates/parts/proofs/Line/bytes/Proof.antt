@@ -2,8 +2,8 @@
 -- Assumes nothing.
 use Prim.Native.Nat.{_-_}
 use borrow.Author.Needs.{needs}
-use Rattle.writing.proofs.Line.bytes.Statement.{statement}
-use Rattle.writing.proofs.Line.bytes.Tie as tie
+use Rattle.parts.proofs.Line.bytes.Statement.{statement}
+use Rattle.parts.proofs.Line.bytes.Tie as tie
 
 abbrev Inv-loop : tie.InvT-loop
 Inv-loop self₀ values i₀ i-end self i = Unit {0}

@@ -2,8 +2,8 @@
 -- Assumes nothing.
 use Prim.Native.Nat.{_-_}
 use borrow.Author.Needs.{needs}
-use Rattle.writing.proofs.width.Statement.{statement}
-use Rattle.writing.proofs.width.Tie as tie
+use Rattle.parts.proofs.writing.width.Statement.{statement}
+use Rattle.parts.proofs.writing.width.Tie as tie
 
 abbrev Inv-loop : tie.InvT-loop
 Inv-loop n rest₀ count₀ rest count = Unit {0}

@@ -2,8 +2,8 @@
 -- Assumes nothing.
 use Prim.Native.Nat.{_-_}
 use borrow.Author.Needs.{needs}
-use Rattle.writing.proofs.Line.repeated.Statement.{statement}
-use Rattle.writing.proofs.Line.repeated.Tie as tie
+use Rattle.parts.proofs.Line.repeated.Statement.{statement}
+use Rattle.parts.proofs.Line.repeated.Tie as tie
 
 abbrev Inv-loop : tie.InvT-loop
 Inv-loop self₀ b count counter₀ self counter = Unit {0}

@@ -1,8 +1,8 @@
 -- `number` is safe and ends: each turn leaves a digit less.
 -- Assumes nothing.
 use borrow.Author.Needs.{needs}
-use Rattle.writing.proofs.Line.number.Statement.{statement}
-use Rattle.writing.proofs.Line.number.Tie as tie
+use Rattle.parts.proofs.Line.number.Statement.{statement}
+use Rattle.parts.proofs.Line.number.Tie as tie
 
 abbrev Inv-loop : tie.InvT-loop
 Inv-loop self₀ n left₀ self left = Unit {0}

@@ -1,10 +1,10 @@
--- `line` is safe and ends: each line is behind the one before.
+-- `line_of` is safe and ends: each line is behind the one before.
 -- Assumes nothing.
 use Prim.Native.Nat.{_+_, _-_, _≤_}
 use lib.ListN.{length}
 use borrow.Author.Needs.{needs}
-use Rattle.parts.proofs.line.Statement.{statement}
-use Rattle.parts.proofs.line.Tie as tie
+use Rattle.parts.proofs.line_of.Statement.{statement}
+use Rattle.parts.proofs.line_of.Tie as tie
 
 abbrev Inv-loop : tie.InvT-loop
 Inv-loop text number at₀ k₀ at k = (at ≤ length text + 1) × (k ≤ at + 1)
@@ -12,8 +12,8 @@ Inv-loop text number at₀ k₀ at k = (at ≤ length text + 1) × (k ≤ at + 1
 abbrev μ-loop : tie.MeasureT-loop
 μ-loop text number at₀ k₀ at k = length text + 1 - at
 
-pub line-spec : {M : Type 1} → statement M
-line-spec =
+pub line-of-spec : {M : Type 1} → statement M
+line-of-spec =
     tie.close
     (tie.spec Inv-loop μ-loop (search needs) (search needs) (search needs) (search needs) (search needs) (search needs) (search needs)
     (search needs) (search needs))
