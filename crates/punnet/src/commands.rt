@@ -113,7 +113,7 @@ fn number_in(word: &[u8]) -> u32 {
 
 // Tells a refusal of what was given.
 pub fn refuse(given: &[u8], told: Line) -> u8 {
-    files::tell_of(given, told);
+    files::tell_behind(given, told);
     REFUSED
 }
 

@@ -10,7 +10,6 @@ use libc::STDIN_FILENO;
 use parts::Line;
 use parts::writing;
 use telling::refusals;
-ghost use Rattle.io.specs.Counts.{Counts};
 
 // Writes a line to standard error.
 pub fn tell(line: Line) {
@@ -19,7 +18,7 @@ pub fn tell(line: Line) {
 }
 
 // The same behind what was given, a word or a file.
-pub fn tell_of(given: &[u8], line: Line) {
+pub fn tell_behind(given: &[u8], line: Line) {
     let mut page = writing::page();
     let held = telling::name(&mut page, given);
     io::write_all(STDERR_FILENO, writing::held_on(&page, held));
@@ -33,7 +32,7 @@ fn tell_part(number: u32) {
 // Tells what is wrong with a word or a file that was given, and answers the status.
 pub fn complain(given: &[u8], number: u32) -> u8 {
     tell_part(words::PUNNET);
-    tell_of(given, refusals::of_use(number));
+    tell_behind(given, refusals::of_use(number));
     TROUBLE
 }
 
@@ -55,12 +54,10 @@ pub fn trouble_with_output() {
 
 // What the system says of a file that is read; `-` is standard input.
 pub fn look(path: &[u8]) -> Facts {
-    if !paths::is_dash(path) {
-        return seen::look_at(path);
+    if paths::is_dash(path) {
+        return seen::look_at(b"/dev/stdin");
     }
-    let line = telling::part(Line::empty(), words::STANDARD_INPUT);
-    let bytes = line.bytes;
-    seen::look_at(writing::held_in(&bytes, line.held))
+    seen::look_at(path)
 }
 
 // No contents, for a reason.
@@ -69,19 +66,14 @@ pub fn nothing(status: u8) -> Contents {
 }
 
 // Reads a file, as much of it as there is room for.
-pub fn read(path: &[u8], room: &mut [u8]) -> Contents
-    ensures { λ r. ⌜ Counts (r .length) (now (room .exit)) ⌝ }
-{
+pub fn read(path: &[u8], room: &mut [u8]) -> Contents {
     let mut file = STDIN_FILENO;
     if !paths::is_dash(path) {
         file = os::open_read(path);
     }
     if file < 0 {
         trouble(path);
-        return Contents {
-            length: 0,
-            status: TROUBLE,
-        };
+        return nothing(TROUBLE);
     }
     let contents = fill(file, room);
     if contents.status != ACCEPTED {
@@ -92,9 +84,7 @@ pub fn read(path: &[u8], room: &mut [u8]) -> Contents
 }
 
 // Reads until the room is full or nothing comes. Where room is left the file has to be at its end: a read that fails is no end.
-pub fn fill(file: i32, room: &mut [u8]) -> Contents
-    ensures { λ r. ⌜ Counts (r .length) (now (room .exit)) ⌝ }
-{
+pub fn fill(file: i32, room: &mut [u8]) -> Contents {
     let length = io::read_full(file, room);
     let mut status = ACCEPTED;
     if length < room.len() {

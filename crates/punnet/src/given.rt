@@ -2,7 +2,6 @@
 use crate::Contents;
 use crate::commands;
 use crate::commands::ACCEPTED;
-use crate::commands::TROUBLE;
 use crate::files;
 use crate::paths;
 use telling::refusals;
@@ -58,20 +57,15 @@ pub fn events(path: &[u8], bytes: &mut Buffer) -> Contents {
 
 // Reads a file of events, a script or bytes. What is wrong with it is told.
 pub fn script(path: &[u8], bytes: &mut Buffer) -> Contents {
-    let mut file = room();
+    let mut file = [0u8; ROOM];
     let contents = files::read(path, &mut file);
     if contents.status != ACCEPTED {
         return contents;
     }
     if contents.length == ROOM {
-        files::complain(path, LONG_FILE);
-        return files::nothing(TROUBLE);
+        return files::nothing(files::complain(path, LONG_FILE));
     }
     of_file(path, of_room(&file, contents.length), bytes)
-}
-
-fn room() -> Room {
-    [0; ROOM]
 }
 
 fn of_room<'a>(room: &'a Room, length: usize) -> &'a [u8] {

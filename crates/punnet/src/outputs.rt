@@ -56,8 +56,8 @@ fn holds(path: &[u8], kind: u32) -> bool {
     let mut room = io::large_buffer();
     let contents = files::fill(file, &mut room);
     libc::close(file);
-    let length = contents.length;
-    (contents.status == ACCEPTED) & are_of_kind(&room[..length], kind)
+    let bytes = given::of_buffer(&room, contents.length);
+    (contents.status == ACCEPTED) & are_of_kind(bytes, kind)
 }
 
 // Whether this user may write a plain file; else it is told.

@@ -28,16 +28,12 @@ pub fn same(a: Facts, b: Facts) -> bool {
     a.found & b.found & (a.device == b.device) & (a.number == b.number)
 }
 
-fn moment() -> types::timespec {
-    types::timespec {
-        tv_sec: 0,
-        tv_nsec: 0,
-    }
-}
-
 fn blank() -> types::stat {
     let unused = [0i64; 3];
-    let never = moment();
+    let never = types::timespec {
+        tv_sec: 0,
+        tv_nsec: 0,
+    };
     types::stat {
         st_dev: 0,
         st_ino: 0,

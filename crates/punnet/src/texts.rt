@@ -36,7 +36,7 @@ fn refuse_line(path: &[u8], text: &[u8], line: usize, fault: u8, count: usize) -
         return count;
     }
     if count < refusals::MOST_SHOWN {
-        files::tell_of(path, refusals::of_line(text, line, fault));
+        files::tell_behind(path, refusals::of_line(text, line, fault));
     }
     telling::one_more(count)
 }

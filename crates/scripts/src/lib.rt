@@ -286,27 +286,15 @@ fn keep(events: &mut [u8], length: usize, said: Said) -> usize {
     write_record(events, length, said.turn, said.event)
 }
 
-// How many events there are with those of one line more.
-fn counted(events: usize, said: Said) -> usize {
-    if said.event.kind == 0 {
-        return events;
-    }
-    if events < usize::MAX {
-        return events + 1;
-    }
-    events
-}
-
-// Turns a script into the bytes of its events, up to the one with a number, from 0: where there is that one, its line is answered.
-fn translate(text: &[u8], events: &mut [u8], last: usize) -> Script {
+// Turns a script into the bytes of its events.
+fn translate(text: &[u8], events: &mut [u8]) -> Script {
     let mut kept: usize = 0;
-    let mut count: usize = 0;
     let mut line: usize = 1;
     let mut at: usize = 0;
     while at < text.len() {
         let span = text::line_at(text, at);
         let said = say(parts::uncommented(parts::between(text, at, span.end)));
-        if (said.fault != NO_FAULT) | ((said.event.kind != 0) & (count == last)) {
+        if said.fault != NO_FAULT {
             return Script {
                 length: 0,
                 line,
@@ -314,7 +302,6 @@ fn translate(text: &[u8], events: &mut [u8], last: usize) -> Script {
             };
         }
         kept = keep(events, kept, said);
-        count = counted(count, said);
         line += 1;
         at = span.next;
     }
@@ -341,7 +328,7 @@ fn copy(from: &[u8], events: &mut [u8]) -> usize {
 // The bytes of the events in a file, which holds them or is a script.
 pub fn read(file: &[u8], events: &mut [u8]) -> Script {
     if !is_bytes(file) {
-        return translate(file, events, usize::MAX);
+        return translate(file, events);
     }
     Script {
         length: copy(file, events),
@@ -350,8 +337,31 @@ pub fn read(file: &[u8], events: &mut [u8]) -> Script {
     }
 }
 
+// How many events there are with those of one line more.
+fn counted(events: usize, said: Said) -> usize {
+    if said.event.kind == 0 {
+        return events;
+    }
+    if events < usize::MAX {
+        return events + 1;
+    }
+    events
+}
+
 // The line of a script, from 1, that has the event with this number, from 0; 0 where there is none.
 pub fn line_of_event(text: &[u8], number: usize) -> usize {
-    let mut none = [0u8; 1];
-    translate(text, &mut none, number).line
+    let mut events: usize = 0;
+    let mut line: usize = 1;
+    let mut at: usize = 0;
+    while at < text.len() {
+        let span = text::line_at(text, at);
+        let said = say(parts::uncommented(parts::between(text, at, span.end)));
+        if (said.event.kind != 0) & (events == number) {
+            return line;
+        }
+        events = counted(events, said);
+        line += 1;
+        at = span.next;
+    }
+    0
 }

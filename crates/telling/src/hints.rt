@@ -155,24 +155,10 @@ fn has_operator(code: &[u8], place: usize) -> bool {
     place_in(&OPERATORS, parts::byte(code, place) as u16) != 0
 }
 
-// The place behind a minus that stands at a place, or the place itself.
-fn past_minus(code: &[u8], at: usize) -> usize {
-    if code.len() <= at {
-        return at;
-    }
-    if code[at] == b'-' {
-        return at + 1;
-    }
-    at
-}
-
-// The place behind the operand that follows a sign.
+// The place behind the operand that follows a sign. Its first byte, be it a minus, is passed over.
 fn behind_operand(code: &[u8], sign: usize) -> usize {
-    if code.len() <= sign {
-        return sign;
-    }
-    let start = past_minus(code, parts::past_blanks(code, sign + 1));
-    parts::past_blanks(code, runs::end(code, start))
+    let first = parts::past_blanks(code, crate::one_more(sign));
+    parts::past_blanks(code, runs::end(code, crate::one_more(first)))
 }
 
 // A line with an equals sign behind its first run.

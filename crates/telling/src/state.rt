@@ -15,13 +15,9 @@ const LAST_OUTPUT: usize = Variable::O3 as usize;
 // The motion of a machine that is still.
 const STILL: u8 = 0;
 
-// The name of a variable: the language's, or the user's as the image has it.
-pub fn name(line: Line, image: &[u8], number: u8) -> Line {
-    crate::key(line, listing::variable_key(image, number))
-}
-
+// A variable by its name, the language's or the user's as the image has it, and its value.
 fn value(mut line: Line, image: &[u8], number: u8, value: i32) -> Line {
-    line = name(line, image, number);
+    line = crate::key(line, listing::variable_key(image, number));
     line = line.byte(b'=');
     line.signed(value)
 }

@@ -1,6 +1,5 @@
 // A run told turn by turn: the events, the statement with its line, and what it recorded.
 use crate::Mark;
-use crate::state;
 use events::Event;
 use events::Record;
 use parts::Line;
@@ -135,7 +134,7 @@ fn source(mut line: Line, image: &[u8], kind: u8, number: u8) -> Line {
         return line;
     }
     if kind == Record::PRINTED {
-        line = state::name(line, image, number);
+        line = crate::key(line, listing::variable_key(image, number));
         return crate::part(line, words::EQUALS);
     }
     line = line.number(number as u64);

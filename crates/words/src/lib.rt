@@ -72,9 +72,7 @@ pub const TURNS_ASKED: u32 = 22;
 
 pub const FIRST_TEN: u32 = 23;
 
-pub const STANDARD_INPUT: u32 = 24;
-
-pub const VERSION: u32 = 25;
+pub const VERSION: u32 = 24;
 
 // The last command that the text on the tool's use tells of.
 pub const LAST_COMMAND: u32 = 7;
@@ -84,7 +82,7 @@ const MOST_SOUGHT: u32 = 16;
 
 // The table stands in five pieces, since a long one is dear to prove: lines for the tool, numbers of answers, hints, wrong uses, and the text
 // on the tool's use, which is no part of the lines. What is sought most often stands first.
-const TOOL_SIZE: usize = 1944;
+const TOOL_SIZE: usize = 1924;
 
 const ANSWER_SIZE: usize = 1518;
 
@@ -104,7 +102,7 @@ const FIRST_COMMAND: usize = HELP + 68;
 pub const SIZE: usize = HELP + HELP_SIZE;
 
 // The number of lines, and the bytes of the longest with its end.
-const LINE_COUNT: usize = 176;
+const LINE_COUNT: usize = 175;
 
 pub const LONGEST: usize = 76;
 
@@ -145,8 +143,7 @@ part 20: .part
 part 21: event 
 part 22:  turns: 
 part 23:  lines are faulty, the first 10 are shown
-part 24: /dev/stdin
-part 25: punnet 1.0, for images of edition 1
+part 24: punnet 1.0, for images of edition 1
 command 1: try
 command 2: translate
 command 3: check

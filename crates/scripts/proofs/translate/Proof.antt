@@ -8,13 +8,13 @@ use Rattle.scripts.proofs.translate.Statement.{statement}
 use Rattle.scripts.proofs.translate.Tie as tie
 
 abbrev Inv-loop : tie.InvT-loop
-Inv-loop text events₀ last kept₀ count₀ line₀ at₀ events kept count line at = (at ≤ length text + 1) × (line ≤ at + 1) × (length events ≡ length events₀)
+Inv-loop text events₀ kept₀ line₀ at₀ events kept line at = (at ≤ length text + 1) × (line ≤ at + 1) × (length events ≡ length events₀)
 
 abbrev μ-loop : tie.MeasureT-loop
-μ-loop text events₀ last kept₀ count₀ line₀ at₀ events kept count line at = length text + 1 - at
+μ-loop text events₀ kept₀ line₀ at₀ events kept line at = length text + 1 - at
 
 pub translate-spec : {M : Type 1} → statement M
 translate-spec =
     tie.close
     (tie.spec Inv-loop μ-loop (search needs) (search needs) (search needs) (search needs) (search needs) (search needs) (search needs)
-    (search needs) (search needs) (search needs) (search needs) (search needs) (search needs) (search needs))
+    (search needs) (search needs) (search needs) (search needs) (search needs) (search needs))
