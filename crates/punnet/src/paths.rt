@@ -75,8 +75,12 @@ fn put_target(page: &mut Page, folder: usize, target: &[u8]) -> usize {
     writing::put(page, folder, target)
 }
 
-// Follows one link: how long the path on the page is then; 0 where it is no link.
+// Follows one link: how long the path on the page is then; 0 where it is no link. One that is too long for the system is none: cut, it would
+// name another.
 fn follow(page: &mut Page, length: usize) -> usize {
+    if PATH_MAX <= length {
+        return 0;
+    }
     let path = ended(writing::held_on(page, length));
     let mut target = io::buffer();
     let got = libc::readlink(&path, &mut target);
