@@ -1,4 +1,4 @@
 pub mod Lines
-pub mod Finding
+pub mod Arranging
 pub mod Asking
 pub mod Surveying

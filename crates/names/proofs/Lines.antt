@@ -1,6 +1,6 @@
 -- What a walk over the lines of a text passes, line by line: what is said, counted and faulty.
 -- Assumes nothing.
-use mathlib.Core.Path.{_≡_, refl, ap, _∙_}
+use mathlib.Core.Path.{_≡_, refl, sym, ap, _∙_}
 use mathlib.Core.Bool.{Bool, true, false, cond, _&&_}
 use mathlib.Core.List.{List, [], _∷_, _++_, map, map-append}
 use Prim.Native.Nat.{ℕ, suc, _+_, _-_, _≤_}
@@ -16,7 +16,7 @@ use Rattle.text.specs.Faults.{heard, said, declaresIt, makesCell, makesLabel, m
 use Rattle.text.specs.Code.{Starts, LineAt}
 use Rattle.reading.specs.Code.{saidBy}
 use Rattle.text.specs.declared.Span.{Span}
-use Rattle.text.proofs.Lines.{lines-next, lines-end}
+use Rattle.text.proofs.Lines.{lines-next, lines-end, lines-split}
 use Rattle.reading.proofs.Heard.{cell-kind, label-kind, variable-kind}
 use Rattle.names.specs.Code.{plus, counted, countsOf}
 
@@ -29,11 +29,19 @@ pub said-end : (s : List ℕ) (at : ℕ) → length s ≤ at → said (drop at s
 unfolding said
 said-end s at h = ap (map heard) (lines-end s at h)
 
--- What is said before the next line; before the first; before the end.
+-- What is said before the next line; before a line, by it and behind it; before the first; before the end.
 pub said-before : (s : List ℕ) (at : ℕ) (r : Span) → Starts s at → LineAt s at r
     → said (take (r .next) s) ≡ said (take at s) ++ (heard (take (r .end - at) (drop at s)) ∷ [])
 unfolding said
 said-before s at r st l = ap (map heard) (lines-next s at r st l) ∙ map-append heard (lines (take at s)) (take (r .end - at) (drop at s) ∷ [])
+
+pub said-split : (s : List ℕ) (at : ℕ) (r : Span) → Starts s at → LineAt s at r
+    → said (take at s) ++ (heard (take (r .end - at) (drop at s)) ∷ said (drop (r .next) s)) ≡ said s
+unfolding said
+said-split s at r st l =
+    ap (λ (ls : List (List ℕ)). map heard (lines (take at s)) ++ map heard ls) (sym (l .cut))
+    ∙ sym (map-append heard (lines (take at s)) (lines (drop at s)))
+    ∙ ap (map heard) (lines-split s at st)
 
 pub said-none : said [] ≡ []
 unfolding said lines

@@ -3,10 +3,9 @@
 use mathlib.Core.Path.{_≡_, refl, sym, ap, _∙_}
 use mathlib.Core.List.{List, [], _∷_}
 use Prim.Native.Nat.{ℕ, zero, suc, _+_, _-_, _%_, _≤_, _<_}
-use native.Mathlib.Numerals.{add-one}
 use native.Mathlib.Omega.{arith}
 use borrow.Author.Tests.{eq-eqb, ne-eqb}
-use lib.ListN.{length, take, drop}
+use lib.ListN.{length, take, drop, length-append}
 use lib.Seq.{sets, length-sets}
 use Rattle.numbers.specs.Bytes.{bytes}
 use Rattle.numbers.specs.Tests.{lowest}
@@ -18,10 +17,11 @@ use Rattle.reading.specs.declared.Reading.{Reading}
 use Rattle.text.proofs.Lines.{starts-first, lines-end}
 use Rattle.text.proofs.Faults.{firstOf, first-of-lines}
 use Rattle.reading.proofs.Heard.{reading-kind}
+use Rattle.rows.specs.Rows.{Row, arranged}
 use Rattle.names.specs.declared.Counts.{Counts}
 use Rattle.names.specs.declared.Passed.{Passed}
-use Rattle.names.specs.Code.{Below, nonePassed, Reached, PassedAt, AllJudged, Surveyed, counted, countsOf, faultBy, faultsOn}
-use Rattle.names.proofs.Lines.{said-before, said-none, said-all, few-said, count-most, counted-more}
+use Rattle.names.specs.Code.{Below, nonePassed, Reached, OnePassed, AllJudged, Surveyed, counted, countsOf, faultBy, faultsOn}
+use Rattle.names.proofs.Lines.{said-before, said-split, said-none, said-all, few-said, count-most, counted-more}
 use Rattle.names.proofs.Asking.{fault-by}
 
 reached-first : (s : List ℕ) → Reached s nonePassed
@@ -30,6 +30,7 @@ reached-first s =
     record {
       starts = starts-first s;
       near = omega arith;
+      lines = rw said-none;
       counts = rw said-none;
     }
 
@@ -62,56 +63,53 @@ module _ {s : List ℕ} {p : Passed} (h : Reached s p) where
         variables = omega (arith, count-most makesVariable xs);
       })
 
+  -- There are no more lines than bytes before a place.
+  pub lines-near : p .lines ≤ p .next
+  lines-near = omega (arith, h .lines, few-said (take (p .next) s), take-few (p .next) s)
+
   -- One line, by its span, its reading, its lowest fault and the counts with it.
-  pub line-passed : {r : Span} {q : Reading} {f : ℕ} {m : Counts} → LineAt s (p .next) r → q ≡ readingOf (take (r .end - p .next) (drop (p .next) s))
-      → f ≡ faultBy (said s) (said (take (p .next) s)) (p .counts) q → m ≡ counted (p .counts) (q .kind)
-      → PassedAt s (p .next) (record { fault = f; counts = m; next = r .next })
+  pub line-passed : {r : Span} {q : Reading} {rows : List Row} {f : ℕ} {m : Counts} → rows ≡ arranged (said s)
+      → LineAt s (p .next) r → q ≡ readingOf (take (r .end - p .next) (drop (p .next) s))
+      → f ≡ faultBy rows (p .lines + 1) (p .counts) q → m ≡ counted (p .counts) (q .kind)
+      → OnePassed s p (record { fault = f; counts = m; lines = p .lines + 1; next = r .next })
   unfolding faultsOn faultsFrom
-  line-passed {r} {q} {f} l e g c =
+  line-passed {r} {q} {rows} {f} a l e g c =
       let before = said (take (p .next) s) in
       let here : List ℕ = take (r .end - p .next) (drop (p .next) s) in
-      let lowest-here : lowest 2 (faults (said s) before here) ≡ f = sym (g ∙ rw (h .counts, e) (fault-by (said s) before here)) in
+      let whole = said-split s (p .next) r (h .starts) l in
+      let line : p .lines + 1 ≡ suc (length before) = omega (arith, h .lines) in
+      let lowest-here : lowest 2 (faults (said s) before here) ≡ f = sym (g ∙ rw (a, line, h .counts, e) (fault-by s before here (said (drop (r .next) s)) whole)) in
       record {
         fault = rw (said-before s (p .next) r (h .starts) l, l .cut, lowest-here);
+        one = omega arith;
         moves = l .moves;
         reached =
             record {
               starts = l .starts;
               near = l .fits;
+              lines = omega (arith, line, ap length (said-before s (p .next) r (h .starts) l), length-append before (heard here ∷ []));
               counts = c ∙ rw (h .counts, e, reading-kind here, said-before s (p .next) r (h .starts) l) (counted-more before (heard here));
             };
       }
 
--- Before the line with this number: the first fault is that of the lines from here on.
-pub record Surveying (s : List ℕ) (p : Passed) (line : ℕ) : Type 0 where
+-- Behind the lines that are passed: the first fault is that of the lines from here on.
+pub record Surveying (s : List ℕ) (p : Passed) : Type 0 where
   pub reached : Reached s p
-  pub numbered : line ≤ p .next + 1
-  pub left : firstOf line (faultsOn s (p .next)) ≡ firstFault s
+  pub left : firstOf (suc (p .lines)) (faultsOn s (p .next)) ≡ firstFault s
 
-pub surveying : {s : List ℕ} {p : Passed} → p ≡ nonePassed → Surveying s p 1
-surveying {s} e =
-    rw e
-    (record {
-      reached = reached-first s;
-      numbered = omega arith;
-      left = ap (firstOf 1) (faults-all s) ∙ first-of-lines s;
-    })
+pub surveying : {s : List ℕ} {p : Passed} → p ≡ nonePassed → Surveying s p
+surveying {s} e = rw e (record { reached = reached-first s; left = ap (firstOf 1) (faults-all s) ∙ first-of-lines s })
 
-module _ {s : List ℕ} {p : Passed} {line : ℕ} (h : Surveying s p line) where
-  module _ {r : Passed} (l : PassedAt s (p .next) r) where
-    pub survey-more : r .fault ≡ 0 → Surveying s r (line + 1)
+module _ {s : List ℕ} {p : Passed} (h : Surveying s p) where
+  module _ {r : Passed} (l : OnePassed s p r) where
+    pub survey-more : r .fault ≡ 0 → Surveying s r
     unfolding firstOf
-    survey-more z =
-        record {
-          reached = l .reached;
-          numbered = omega (arith, l .moves, h .numbered);
-          left = rw (add-one line) (rw (l .fault, eq-eqb (r .fault) 0 z) at (h .left));
-        }
+    survey-more z = record { reached = l .reached; left = rw (l .one) (rw (l .fault, eq-eqb (r .fault) 0 z) at (h .left)) }
 
-    pub fault-here : (r .fault ≡ 0 → ⊥) → Surveyed s (record { fault = fault (r .fault) line; counts = r .counts })
+    pub fault-here : (r .fault ≡ 0 → ⊥) → Surveyed s (record { fault = fault (r .fault) (r .lines); counts = r .counts })
     unfolding firstOf
     fault-here z =
-        let first : fault (r .fault) line ≡ firstFault s = rw (l .fault, ne-eqb (r .fault) 0 z) at (h .left) in
+        let first : fault (r .fault) (r .lines) ≡ firstFault s = rw (l .one) (rw (l .fault, ne-eqb (r .fault) 0 z) at (h .left)) in
         record { fault = first; counts = λ y. absurd (z (ap (λ x. x .number) first ∙ y)) }
 
   pub fault-none : length s ≤ p .next → Surveyed s (record { fault = fault 0 0; counts = p .counts })
@@ -119,21 +117,19 @@ module _ {s : List ℕ} {p : Passed} {line : ℕ} (h : Surveying s p line) where
   fault-none e =
       record { fault = rw (faults-end s (p .next) e) at (h .left); counts = λ z. h .reached .counts ∙ ap countsOf (said-all s (p .next) e) }
 
--- Behind so many lines: those that are left, with their faults over what the buffer has now, give the whole.
-pub record Judging (s b₀ b : List ℕ) (p : Passed) (line : ℕ) : Type 0 where
+-- Behind the lines that are passed: those that are left, with their faults over what the buffer has now, give the whole.
+pub record Judging (s b₀ b : List ℕ) (p : Passed) : Type 0 where
   pub reached : Reached s p
   pub size : length b ≡ length b₀
-  pub numbered : line ≤ p .next
-  pub counted : line + length (faultsOn s (p .next)) ≡ length (lineFaults s)
-  pub written : sets b line (faultsOn s (p .next)) ≡ sets b₀ 0 (lineFaults s)
+  pub counted : p .lines + length (faultsOn s (p .next)) ≡ length (lineFaults s)
+  pub written : sets b (p .lines) (faultsOn s (p .next)) ≡ sets b₀ 0 (lineFaults s)
 
-pub judging : {s b : List ℕ} {p : Passed} → p ≡ nonePassed → Judging s b b p 0
+pub judging : {s b : List ℕ} {p : Passed} → p ≡ nonePassed → Judging s b b p
 judging {s} {b} e =
     rw e
     (record {
       reached = reached-first s;
       size = refl;
-      numbered = omega arith;
       counted = rw (faults-all s) (omega arith);
       written = ap (sets b 0) (faults-all s);
     })
@@ -143,18 +139,17 @@ one-byte : (n : ℕ) → n < 256 → bytes 1 n ≡ n ∷ []
 unfolding bytes
 one-byte n h = let e : n % 256 ≡ n = omega arith in rw e
 
-module _ {s b₀ b : List ℕ} {p : Passed} {line : ℕ} (h : Judging s b₀ b p line) where
-  pub judge-more : {r : Passed} {b′ : List ℕ} → PassedAt s (p .next) r → r .fault < 256 → b′ ≡ sets b line (bytes 1 (r .fault)) → Judging s b₀ b′ r (line + 1)
+module _ {s b₀ b : List ℕ} {p : Passed} (h : Judging s b₀ b p) where
+  pub judge-more : {r : Passed} {b′ : List ℕ} → OnePassed s p r → r .fault < 256 → b′ ≡ sets b (p .lines) (bytes 1 (r .fault)) → Judging s b₀ b′ r
   judge-more {r} {b′} l f w =
-      let e : b′ ≡ sets b line (r .fault ∷ []) = w ∙ ap (sets b line) (one-byte (r .fault) f) in
+      let e : b′ ≡ sets b (p .lines) (r .fault ∷ []) = w ∙ ap (sets b (p .lines)) (one-byte (r .fault) f) in
       record {
         reached = l .reached;
-        size = rw e (length-sets b line (r .fault ∷ []) ∙ h .size);
-        numbered = omega (arith, l .moves, h .numbered);
-        counted = omega (arith, ap length (l .fault), h .counted);
-        written = rw (e, add-one line) (rw (l .fault) at (h .written));
+        size = rw e (length-sets b (p .lines) (r .fault ∷ []) ∙ h .size);
+        counted = omega (arith, l .one, ap length (l .fault), h .counted);
+        written = rw (e, l .one) (rw (l .fault) at (h .written));
       }
 
-  pub judged-all : length s ≤ p .next → AllJudged s line b₀ b
+  pub judged-all : length s ≤ p .next → AllJudged s (p .lines) b₀ b
   judged-all e =
       record { count = omega (arith, ap length (faults-end s (p .next) e), h .counted); buffer = rw (faults-end s (p .next) e) at (h .written) }

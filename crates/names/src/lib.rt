@@ -1,23 +1,18 @@
-// Where a name of a text is declared, and the faults that more than one line is needed to see.
+// The names that a text declares, and the faults that more than one line is needed to see.
 ghost use mathlib.Core.Path.{_≡_};
 ghost use Prim.Native.Nat.{_<_};
 ghost use lib.ListN.{length};
 ghost use Rattle.program.specs.Code.{nameOf};
-ghost use Rattle.text.specs.Faults.{said, unknownVariable, firstFault};
+ghost use Rattle.text.specs.Faults.{said};
 ghost use Rattle.reading.specs.Code.{declaring};
-ghost use Rattle.names.specs.Code.{FoundAt, DeclaredAs, declaredIn, Surveyed, nonePassed, Reached, PassedAt, AllJudged, Keyed, KeyOperand, Below, plus, unknownTarget, unknownWritten, unknownOperand, unknownCell, readOnlyKey, repeatedKey, tooManyBy, counted, faultBy};
+ghost use Rattle.rows.specs.Rows.{arranged};
+ghost use Rattle.names.specs.Code.{Surveyed, nonePassed, Reached, OnePassed, AllJudged, Keyed, KeyOperand, Below, plus, enteredBy, unknownVariableIn, unknownTarget, unknownWritten, unknownOperand, unknownCell, readOnlyKey, repeatedKey, tooManyBy, counted, faultBy};
 use program::Cell;
 use program::Operand;
 use program::Variable;
 use reading::Reading;
-use reading::heads;
+use rows::Row;
 use text::Fault;
-
-// How many cells and variables the lines make before the first one that declares a name.
-pub struct Found {
-    pub cells: usize,
-    pub variables: usize,
-}
 
 // How many cells, labels and variables some lines make.
 pub struct Counts {
@@ -26,10 +21,11 @@ pub struct Counts {
     pub variables: usize,
 }
 
-// The lines of a text that are passed: the lowest fault of the last of them, what they make, and where the next one starts.
+// The lines of a text that are passed: the lowest fault of the last of them, what they make, how many they are, and where the next one starts.
 struct Passed {
     fault: u8,
     counts: Counts,
+    lines: usize,
     next: usize,
 }
 
@@ -71,112 +67,95 @@ fn is_declaring(kind: u8) -> bool
     (kind == Reading::LABEL) | (kind == Reading::DECLARED)
 }
 
-// The kind of a line that declares the name with this key; BLANK for any other. Only a line with such a head is read whole.
-fn declared_in(l: &[u8], key: u16) -> u8
-    ensures { λ r. ⌜ r ≡ declaredIn (now (l .entry)) key ⌝ }
+// Enters the name that a line of this kind declares, if it declares one: the line has this number, and so many cells and variables are before it.
+fn enter_line(rows: &mut [Row], line: usize, cells: usize, variables: usize, kind: u8, name: u16)
+    ensures { λ r. ⌜ now (rows .exit) ≡ enteredBy line cells variables kind name (now (rows .entry)) ⌝ }
 {
-    let head = heads::line_head(l);
-    if !(is_declaring(head.kind) & (head.name == key)) {
-        return Reading::BLANK;
+    if kind == Reading::LABEL {
+        rows::enter(rows, name, [rows::LABEL, line, cells]);
+        return;
     }
-    let reading = reading::read_line(l);
-    if is_declaring(reading.kind) & (reading.name == key) {
-        return reading.kind;
+    if kind == Reading::DECLARED {
+        rows::enter(rows, name, [rows::VARIABLE, line, variables]);
     }
-    Reading::BLANK
 }
 
-// The kind of the first line that declares the name with this key, sought from the front of the text; BLANK where there is no such line.
-pub fn declared_as(s: &[u8], key: u16) -> u8
-    ensures { λ r. ⌜ DeclaredAs (now (s .entry)) key r ⌝ }
+// The names that the lines of a text declare, each in its row.
+pub fn arrange(s: &[u8]) -> [Row; rows::COUNT]
+    ensures { λ r. ⌜ r ≡ arranged (said (now (s .entry))) ⌝ }
 {
-    let mut at: usize = 0;
-    while at < s.len() {
-        let span = text::line_at(s, at);
-        let end = span.end;
-        let kind = declared_in(&s[at..end], key);
-        if kind != Reading::BLANK {
-            return kind;
-        }
-        at = span.next;
-    }
-    Reading::BLANK
-}
-
-// The first line that declares the name with this key, sought from the front of a text without a fault: the heads of its lines tell enough.
-pub fn find(s: &[u8], key: u16) -> Found
-    requires { ⌜ firstFault (now s) .number ≡ 0 ⌝ }
-    ensures { λ r. ⌜ FoundAt (now (s .entry)) key r ⌝ }
-{
+    let mut rows = [rows::NO_ROW; rows::COUNT];
+    let mut line: usize = 1;
     let mut cells: usize = 0;
     let mut variables: usize = 0;
     let mut at: usize = 0;
     while at < s.len() {
         let span = text::line_at(s, at);
         let end = span.end;
-        let head = heads::line_head(&s[at..end]);
-        let kind = head.kind;
-        if is_declaring(kind) & (head.name == key) {
-            return Found { cells, variables };
-        }
+        let reading = reading::read_line(&s[at..end]);
+        let kind = reading.kind;
+        enter_line(&mut rows, line, cells, variables, kind, reading.name);
+        line += 1;
         cells = more_if(kind == Reading::ACTS, cells);
         variables = more_if(kind == Reading::DECLARED, variables);
         at = span.next;
     }
-    Found { cells, variables }
+    rows
 }
 
 // No variable of the paper's, and not first declared as a variable.
-fn is_unknown_variable(s: &[u8], key: u16) -> bool
-    ensures { λ r. ⌜ r ≡ unknownVariable (said (now (s .entry))) (nameOf key) ⌝ }
+fn is_unknown_variable(rows: &[Row], key: u16) -> bool
+    ensures { λ r. ⌜ r ≡ unknownVariableIn (now (rows .entry)) (nameOf key) ⌝ }
 {
-    if Variable::number_of(key) != 0 {
+    let row = rows::look_up(rows, key);
+    if row[rows::KIND] == rows::VARIABLE {
         return false;
     }
-    declared_as(s, key) != Reading::DECLARED
+    Variable::number_of(key) == 0
 }
 
 // A cell jumps to a name that is not first declared as a label.
-fn is_unknown_target(s: &[u8], target: u16) -> bool
-    ensures { λ r. ⌜ r ≡ unknownTarget (said (now (s .entry))) target ⌝ }
+fn is_unknown_target(rows: &[Row], target: u16) -> bool
+    ensures { λ r. ⌜ r ≡ unknownTarget (now (rows .entry)) target ⌝ }
 {
     if (target == NO_NAME) | (target == Cell::NO_TARGET) {
         return false;
     }
-    declared_as(s, target) != Reading::LABEL
+    let row = rows::look_up(rows, target);
+    row[rows::KIND] != rows::LABEL
 }
 
-fn is_unknown_written(s: &[u8], key: u16) -> bool
-    ensures { λ r. ⌜ r ≡ unknownWritten (said (now (s .entry))) key ⌝ }
+fn is_unknown_written(rows: &[Row], key: u16) -> bool
+    ensures { λ r. ⌜ r ≡ unknownWritten (now (rows .entry)) key ⌝ }
 {
     if key == NO_NAME {
         return false;
     }
-    is_unknown_variable(s, key)
+    is_unknown_variable(rows, key)
 }
 
-fn is_unknown_operand(s: &[u8], operand: Operand) -> bool
+fn is_unknown_operand(rows: &[Row], operand: Operand) -> bool
     requires { ⌜ KeyOperand operand ⌝ }
-    ensures { λ r. ⌜ r ≡ unknownOperand (said (now (s .entry))) operand ⌝ }
+    ensures { λ r. ⌜ r ≡ unknownOperand (now (rows .entry)) operand ⌝ }
 {
     match operand {
         Operand::Nothing => false,
         Operand::Literal(_) => false,
-        Operand::Variable(key) => is_unknown_variable(s, key as u16),
+        Operand::Variable(key) => is_unknown_variable(rows, key as u16),
     }
 }
 
 // A cell has a name with no declaration, or whose first is of another kind.
-fn is_undeclared(s: &[u8], cell: Cell) -> bool
+fn is_undeclared(rows: &[Row], cell: Cell) -> bool
     requires { ⌜ Keyed cell ⌝ }
-    ensures { λ r. ⌜ r ≡ unknownCell (said (now (s .entry))) cell ⌝ }
+    ensures { λ r. ⌜ r ≡ unknownCell (now (rows .entry)) cell ⌝ }
 {
     let left = cell.left;
     let right = cell.right;
-    let target = is_unknown_target(s, cell.target);
-    let written = is_unknown_written(s, cell.written);
-    let first = is_unknown_operand(s, left);
-    let second = is_unknown_operand(s, right);
+    let target = is_unknown_target(rows, cell.target);
+    let written = is_unknown_written(rows, cell.written);
+    let first = is_unknown_operand(rows, left);
+    let second = is_unknown_operand(rows, right);
     target | (written | (first | second))
 }
 
@@ -187,14 +166,12 @@ fn writes_read_only(key: u16) -> bool
     (key != NO_NAME) & Variable(number).is_read_only()
 }
 
-// A line of this kind declares a name that a line before it declares.
-fn is_repeated(before: &[u8], kind: u8, name: u16) -> bool
-    ensures { λ r. ⌜ r ≡ repeatedKey (said (now (before .entry))) kind name ⌝ }
+// The line with this number and of this kind declares a name that a line before it declares.
+fn is_repeated(rows: &[Row], line: usize, kind: u8, name: u16) -> bool
+    ensures { λ r. ⌜ r ≡ repeatedKey (now (rows .entry)) line kind name ⌝ }
 {
-    if !is_declaring(kind) {
-        return false;
-    }
-    declared_as(before, name) != Reading::BLANK
+    let row = rows::look_up(rows, name);
+    is_declaring(kind) & (row[rows::LINE] < line)
 }
 
 // A line of this kind makes one thing too many, behind lines with these counts.
@@ -221,23 +198,23 @@ fn counted(counts: Counts, kind: u8) -> Counts
     }
 }
 
-// The lowest fault of a line that was read so, in the text s, behind the text `before` with these counts.
-fn line_fault(s: &[u8], before: &[u8], counts: Counts, reading: Reading) -> u8
+// The lowest fault of a line with this number that was read so, behind lines with these counts.
+fn line_fault(rows: &[Row], line: usize, counts: Counts, reading: Reading) -> u8
     requires { ⌜ Keyed (reading .cell) ⌝ }
-    ensures { λ r. ⌜ r ≡ faultBy (said (now (s .entry))) (said (now (before .entry))) counts reading ⌝ }
+    ensures { λ r. ⌜ r ≡ faultBy (now (rows .entry)) line counts reading ⌝ }
 {
     let kind = reading.kind;
     let cell = reading.cell;
     if reading.fault != NO_FAULT {
         return reading.fault;
     }
-    if is_repeated(before, kind, reading.name) {
+    if is_repeated(rows, line, kind, reading.name) {
         return REPEATED;
     }
     if is_too_many(counts, kind) {
         return TOO_MANY;
     }
-    if is_undeclared(s, cell) {
+    if is_undeclared(rows, cell) {
         return UNDECLARED;
     }
     if writes_read_only(cell.written) {
@@ -259,45 +236,50 @@ impl Passed {
         Passed {
             fault: NO_FAULT,
             counts,
+            lines: 0,
             next: 0,
         }
     }
 }
 
 // One line more is passed.
-fn pass_line(s: &[u8], passed: Passed) -> Passed
+fn pass_line(s: &[u8], rows: &[Row], passed: Passed) -> Passed
     requires { ⌜ (passed .next < length (now s)) × Reached (now s) passed ⌝ }
-    ensures { λ r. ⌜ PassedAt (now (s .entry)) (passed .next) r ⌝ }
+    requires { ⌜ now rows ≡ arranged (said (now s)) ⌝ }
+    ensures { λ r. ⌜ OnePassed (now (s .entry)) passed r ⌝ }
 {
     let at = passed.next;
     let span = text::line_at(s, at);
     let end = span.end;
     let reading = reading::read_line(&s[at..end]);
-    let before = &s[..at];
-    let fault = line_fault(s, before, passed.counts, reading);
+    let lines = passed.lines + 1;
+    let fault = line_fault(rows, lines, passed.counts, reading);
     let counts = counted(passed.counts, reading.kind);
     Passed {
         fault,
         counts,
+        lines,
         next: span.next,
     }
 }
 
-// The first fault of a text, and its counts where it has none: one pass over its lines.
-pub fn survey_lines(s: &[u8]) -> Survey
+// The first fault of a text whose names are in these rows, and its counts where it has none: one pass over its lines.
+pub fn survey_lines(s: &[u8], rows: &[Row]) -> Survey
+    requires { ⌜ now rows ≡ arranged (said (now s)) ⌝ }
     ensures { λ r. ⌜ Surveyed (now (s .entry)) r ⌝ }
 {
     let mut passed = Passed::none();
-    let mut line: usize = 1;
     while passed.next < s.len() {
-        passed = pass_line(s, passed);
+        passed = pass_line(s, rows, passed);
         let number = passed.fault;
         if number != NO_FAULT {
-            let fault = Fault { number, line };
+            let fault = Fault {
+                number,
+                line: passed.lines,
+            };
             let counts = passed.counts;
             return Survey { fault, counts };
         }
-        line += 1;
     }
     let fault = Fault {
         number: NO_FAULT,
@@ -311,12 +293,12 @@ pub fn survey_lines(s: &[u8]) -> Survey
 pub fn line_faults(s: &[u8], faults: &mut [u8]) -> usize
     ensures { λ r. ⌜ AllJudged (now (s .entry)) r (now (faults .entry)) (now (faults .exit)) ⌝ }
 {
+    let rows = arrange(s);
     let mut passed = Passed::none();
-    let mut line: usize = 0;
     while passed.next < s.len() {
-        passed = pass_line(s, passed);
+        let line = passed.lines;
+        passed = pass_line(s, &rows, passed);
         numbers::write(faults, line, 1, passed.fault as u64);
-        line += 1;
     }
-    line
+    passed.lines
 }

@@ -1,26 +1,25 @@
 -- `is_unknown_operand` meets its contract.
 -- Assumes nothing.
 use native.Mathlib.Omega.{arith}
-use Rattle.text.specs.Faults.{unknownValue}
-use Rattle.names.specs.Code.{unknownOperand}
+use Rattle.names.specs.Code.{unknownOperand, unknownValueIn}
 use Rattle.names.proofs.Asking.{keyed-variable}
 use borrow.Author.Needs.{needs}
 use Rattle.names.proofs.is_unknown_operand.Statement.{statement}
 use Rattle.names.proofs.is_unknown_operand.Tie as tie
 
 cast-is-unknown-variable : tie.Need-cast-is-unknown-variable
-cast-is-unknown-variable c = omega (arith, keyed-variable _ _ (c .before .operand .given .1) (c .before .before .before .before .pre))
+cast-is-unknown-variable c = omega (arith, keyed-variable _ _ (c .before .operand .given .1) (c .before .before .before .pre))
 
 returns : tie.Need-returns
 unfolding unknownOperand
 returns c = rw (c .enum-told .given .1)
 
 returns-2 : tie.Need-returns-2
-unfolding unknownOperand unknownValue
+unfolding unknownOperand unknownValueIn
 returns-2 c = rw (c .enum-told2 .given .1)
 
 returns-3 : tie.Need-returns-3
-unfolding unknownOperand unknownValue
+unfolding unknownOperand unknownValueIn
 returns-3 c = rw (c .before .before .operand .given .1) (c .is-unknown-variable .ensures)
 
 pub is-unknown-operand-spec : {M : Type 1} → statement M

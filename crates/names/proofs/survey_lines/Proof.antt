@@ -8,10 +8,10 @@ use Rattle.names.proofs.survey_lines.Statement.{statement}
 use Rattle.names.proofs.survey_lines.Tie as tie
 
 abbrev Inv-loop : tie.InvT-loop
-Inv-loop s passed₀ line₀ passed line = Surveying s passed line
+Inv-loop s rows passed₀ passed = Surveying s passed
 
 abbrev μ-loop : tie.MeasureT-loop
-μ-loop s passed₀ line₀ passed line = length s + 1 - passed .next
+μ-loop s rows passed₀ passed = length s + 1 - passed .next
 
 loop-holds : tie.Need-loop-holds Inv-loop μ-loop
 loop-holds c = surveying (c .none .ensures)
@@ -35,7 +35,6 @@ survey-lines-spec =
     loop-holds
     (λ c κs. search needs)
     returns
-    (search needs)
     (search needs)
     loop-again
     returns-2)
