@@ -20,10 +20,11 @@ use Rattle.text.specs.declared.Span.{Span}
 use Rattle.reading.specs.Code.{saidBy, readingOf}
 use Rattle.reading.specs.declared.Reading.{Reading}
 use Rattle.reading.proofs.Heard.{Fine, heard-fine, cell-kind, variable-kind, reading-kind, reading-name}
-use Rattle.rows.specs.Rows.{Row, row, noRow, rowAt, enter, entered, arrangedFrom, arranged, Sought}
+use Rattle.rows.specs.Rows.{Row, row, place, noRow, rowAt, enter, entered, arrangedFrom, arranged, Sought}
+use Rattle.rows.proofs.Seeking as Seeking
 use Rattle.rows.proofs.Seeking.{Spelt, looked-up, enter-long}
 use Rattle.names.specs.Code.{plus, enteredBy}
-use Rattle.names.proofs.Lines.{said-next, said-end, plus-most}
+use Rattle.names.proofs.Lines.{said-next, said-end, few-said, plus-most}
 
 -- The names that a text declares have two characters. So its rows tell what the paper's walks find.
 spelt : (x : Line) → Fine x → Spelt x
@@ -39,6 +40,10 @@ all-spelt (l ∷ ls) = (spelt (heard l) (heard-fine l), all-spelt ls)
 pub sought : (s : List ℕ) (w : Name) → Sought (said s) w (rowAt (arranged (said s)) w)
 unfolding said
 sought s w = looked-up (said s) w (all-spelt (lines s))
+
+pub near : (s : List ℕ) (w : Name) → place (rowAt (arranged (said s)) w) ≤ length s
+unfolding said
+near s w = omega (arith, Seeking.near (said s) w (all-spelt (lines s)), few-said s)
 
 -- A line by its reading.
 entered-by : (n c v : ℕ) (x : Line) (rows : List Row) → Fine x → enteredBy n c v (saidBy x .kind) (saidBy x .name) rows ≡ entered n c v x rows

@@ -252,13 +252,15 @@ sought-from w (x ∷ xs) n c v = pick (declaresIt w x) refl (sought-from w xs (s
     pick true d ih = found-here w x xs n c v d
     pick false d ih = found-later w x xs n c v r d ih
 
+looked : (text : List Line) (w : Name) → Each Spelt text → rowAt (arranged text) w ≡ seekFrom noRow w 1 0 0 text
+unfolding arranged kept
+looked text w t = looked-from w text 1 0 0 (replicate 936 noRow) t (length-replicate 936 noRow) ∙ rw (none-yet w)
+
 -- Q-3 2, Q-3 3: looking a name up finds what seeking it from the front does.
 pub looked-up : (text : List Line) (w : Name) → Each Spelt text → Sought text w (rowAt (arranged text) w)
-unfolding arranged kept
 looked-up text w t =
-    let e : rowAt (arranged text) w ≡ seekFrom noRow w 1 0 0 text = looked-from w text 1 0 0 (replicate 936 noRow) t (length-replicate 936 noRow) ∙ rw (none-yet w) in
     let s = sought-from w text 1 0 0 in
-    rw e
+    rw (looked text w t)
     (record {
       label = s .label;
       variable = s .variable;
@@ -277,3 +279,33 @@ long-from (x ∷ xs) n c v rows = long-from xs (suc n) (cond (makesCell x) (suc 
 pub long : (text : List Line) → length (arranged text) ≡ 936
 unfolding arranged
 long text = long-from text 1 0 0 (replicate 936 noRow) ∙ length-replicate 936 noRow
+
+-- No place is past the lines.
+near-from : (w : Name) (xs : List Line) (n c v most : ℕ) → c ≤ most → v ≤ most → place (seekFrom noRow w n c v xs) ≤ most + length xs
+unfolding seekFrom made
+near-from w [] n c v most h k = omega arith
+near-from w (x ∷ xs) n c v most h k = pick (declaresIt w x) (near-from w xs (suc n) c′ v′ (suc most) (more (makesCell x) c h) (more (makesVariable x) v k))
+  where
+    c′ : ℕ
+    c′ = cond (makesCell x) (suc c) c
+
+    v′ : ℕ
+    v′ = cond (makesVariable x) (suc v) v
+
+    more : (b : Bool) (m : ℕ) → m ≤ most → cond b (suc m) m ≤ suc most
+    more true m h = omega arith
+    more false m h = omega arith
+
+    own : (x : Line) → place (made n c v x) ≤ most
+    own Blank = omega arith
+    own (Label w) = h
+    own (Declared w z) = k
+    own (Acts s) = omega arith
+
+    pick : (b : Bool) → place (seekFrom noRow w (suc n) c′ v′ xs) ≤ suc most + length xs
+        → place (cond b (made n c v x) (seekFrom noRow w (suc n) c′ v′ xs)) ≤ most + suc (length xs)
+    pick true i = omega (arith, own x)
+    pick false i = omega arith
+
+pub near : (text : List Line) (w : Name) → Each Spelt text → place (rowAt (arranged text) w) ≤ length text
+near text w t = rw (looked text w t) (omega (arith, near-from w text 1 0 0 0 (omega arith) (omega arith)))

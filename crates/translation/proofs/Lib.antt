@@ -1,5 +1,6 @@
 pub mod Emission
 pub mod Accepted
+pub mod Known
 pub mod Parts
 pub mod Writing
 pub mod Whole

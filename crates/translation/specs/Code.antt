@@ -9,12 +9,13 @@ use lib.ListN.{length, take, drop}
 use lib.Seq.{sets}
 use Rattle.numbers.specs.Bytes.{bytes}
 use Rattle.numbers.specs.Bits.{digits32}
+use Rattle.program.specs.Names.{Name, paperVariable}
 use Rattle.program.specs.Code.{nameOf}
 use Rattle.text.specs.Lines.{lines}
-use Rattle.text.specs.Forms.{Line}
-use Rattle.text.specs.Faults.{said, placeOf, numberOf, firstFault}
+use Rattle.text.specs.Faults.{said, firstFault}
 use Rattle.reading.specs.Code.{resolved}
 use Rattle.reading.specs.declared.Reading.{Reading}
+use Rattle.rows.specs.Rows.{Row, kind, place, rowAt}
 use Rattle.image.specs.Layout.{cellBytes}
 use Rattle.translation.specs.declared.Places.{Places}
 use Rattle.translation.specs.declared.Placed.{Placed}
@@ -25,6 +26,17 @@ pub record Faultless (s : List ℕ) : Type 0 where
   pub short : length s ≤ 16384
   pub clear : firstFault s .number ≡ 0
 
+-- The place of a label and the number of a variable, by the rows of the names.
+unfoldable pub placeIn : List Row → Name → ℕ
+placeIn rows w = place (rowAt rows w)
+
+unfoldable pub numberIn : List Row → Name → ℕ
+numberIn rows w = cond (eqb (kind (rowAt rows w)) 2) (32 + place (rowAt rows w)) (paperVariable w)
+
+-- No row has a place past the longest text.
+pub record Low (rows : List Row) : Type 0 where
+  pub each : (w : Name) → place (rowAt rows w) ≤ 16384
+
 -- Each x puts f x, g x and h x into the buffer, behind what the ones before it put there.
 module _ {A : Type 0} (f g h : A → List ℕ) where
   unfoldable pub emitFrom : ℕ → ℕ → ℕ → List A → List ℕ → List ℕ
@@ -33,24 +45,24 @@ module _ {A : Type 0} (f g h : A → List ℕ) where
       emitFrom (i + length (f x)) (j + length (g x)) (k + length (h x)) xs (sets (sets (sets b i (f x)) j (g x)) k (h x))
 
 -- What a line that was read so puts into the image: a cell, a label record or a variable record.
-unfoldable pub cellOut : List Line → Reading → List ℕ
-cellOut text r = cond (eqb (r .kind) 3) (cellBytes (resolved (placeOf text) (numberOf text) (r .cell))) []
+unfoldable pub cellOut : List Row → Reading → List ℕ
+cellOut rows r = cond (eqb (r .kind) 3) (cellBytes (resolved (placeIn rows) (numberIn rows) (r .cell))) []
 
-unfoldable pub labelOut : List Line → Reading → List ℕ
-labelOut text r = cond (eqb (r .kind) 1) (bytes 2 (r .name) ++ bytes 2 (placeOf text (nameOf (r .name)))) []
+unfoldable pub labelOut : List Row → Reading → List ℕ
+labelOut rows r = cond (eqb (r .kind) 1) (bytes 2 (r .name) ++ bytes 2 (placeIn rows (nameOf (r .name)))) []
 
 unfoldable pub variableOut : Reading → List ℕ
 variableOut r = cond (eqb (r .kind) 2) (bytes 2 (r .name) ++ (bytes 2 0 ++ bytes 4 (digits32 (r .start)))) []
 
 -- The buffer with what a line puts at these places, and the places behind it.
-unfoldable pub emittedBy : List Line → Reading → Places → List ℕ → List ℕ
-emittedBy text r p b = sets (sets (sets b (p .cell) (cellOut text r)) (p .label) (labelOut text r)) (p .variable) (variableOut r)
+unfoldable pub emittedBy : List Row → Reading → Places → List ℕ → List ℕ
+emittedBy rows r p b = sets (sets (sets b (p .cell) (cellOut rows r)) (p .label) (labelOut rows r)) (p .variable) (variableOut r)
 
-unfoldable pub placesBy : List Line → Reading → Places → Places
-placesBy text r p =
+unfoldable pub placesBy : List Row → Reading → Places → Places
+placesBy rows r p =
     record {
-      cell = p .cell + length (cellOut text r);
-      label = p .label + length (labelOut text r);
+      cell = p .cell + length (cellOut rows r);
+      label = p .label + length (labelOut rows r);
       variable = p .variable + length (variableOut r);
     }
 

@@ -4,17 +4,19 @@ ghost use mathlib.Core.List.{_++_};
 ghost use Prim.Native.Nat.{_≤_};
 ghost use lib.ListN.{length, drop};
 ghost use Rattle.program.specs.Code.{nameOf};
-ghost use Rattle.text.specs.Faults.{said, firstFault, numberOf, placeOf};
+ghost use Rattle.text.specs.Faults.{said, firstFault};
 ghost use Rattle.reading.specs.Code.{placed, written, operandWith, resolved};
+ghost use Rattle.rows.specs.Rows.{arranged};
 ghost use Rattle.names.specs.Code.{Keyed, KeyOperand, countsOf};
 ghost use Rattle.image.specs.Layout.{imageLength};
 ghost use Rattle.translation.specs.Images.{cellPart, labelPart, variablePart, imageOf};
-ghost use Rattle.translation.specs.Code.{emitFrom, emittedBy, placesBy, Within, fewer, Faultless, PlacedAt};
+ghost use Rattle.translation.specs.Code.{placeIn, numberIn, Low, emitFrom, emittedBy, placesBy, Within, fewer, Faultless, PlacedAt};
 use names::Counts;
 use program::Cell;
 use program::Operand;
 use program::Variable;
 use reading::Reading;
+use rows::Row;
 
 // Where the next cell, label record and variable record of an image go.
 pub struct Places {
@@ -33,72 +35,71 @@ const VARIABLE_BYTES: usize = 8;
 // The key where a cell has no name.
 const NO_NAME: u16 = 0;
 
-// The number of the variable with this key: the paper's, or behind those by the user's declarations.
-fn number_of(s: &[u8], key: u16) -> u16
-    requires { ⌜ Faultless (now s) ⌝ }
-    ensures { λ r. ⌜ r ≡ numberOf (said (now (s .entry))) (nameOf key) ⌝ }
+// The number of the variable with this key: behind the paper's by the user's declarations, or the paper's.
+fn number_of(rows: &[Row], key: u16) -> u16
+    requires { ⌜ Low (now rows) ⌝ }
+    ensures { λ r. ⌜ r ≡ numberIn (now (rows .entry)) (nameOf key) ⌝ }
 {
-    let number = Variable::number_of(key);
-    if number != 0 {
-        return number as u16;
+    let row = rows::look_up(rows, key);
+    if row[rows::KIND] == rows::VARIABLE {
+        return (Variable::FIRST_USER as u16) + (row[rows::PLACE] as u16);
     }
-    let found = names::find(s, key);
-    (Variable::FIRST_USER as u16) + (found.variables as u16)
+    Variable::number_of(key) as u16
 }
 
 // The place of the label with this key: how many cells stand before it.
-fn place_of(s: &[u8], key: u16) -> u16
-    requires { ⌜ Faultless (now s) ⌝ }
-    ensures { λ r. ⌜ r ≡ placeOf (said (now (s .entry))) (nameOf key) ⌝ }
+fn place_of(rows: &[Row], key: u16) -> u16
+    requires { ⌜ Low (now rows) ⌝ }
+    ensures { λ r. ⌜ r ≡ placeIn (now (rows .entry)) (nameOf key) ⌝ }
 {
-    let found = names::find(s, key);
-    found.cells as u16
+    let row = rows::look_up(rows, key);
+    row[rows::PLACE] as u16
 }
 
-fn resolve_target(s: &[u8], target: u16) -> u16
-    requires { ⌜ Faultless (now s) ⌝ }
-    ensures { λ r. ⌜ r ≡ placed (placeOf (said (now (s .entry)))) target ⌝ }
+fn resolve_target(rows: &[Row], target: u16) -> u16
+    requires { ⌜ Low (now rows) ⌝ }
+    ensures { λ r. ⌜ r ≡ placed (placeIn (now (rows .entry))) target ⌝ }
 {
     if (target == NO_NAME) | (target == Cell::NO_TARGET) {
         return target;
     }
-    place_of(s, target)
+    place_of(rows, target)
 }
 
-fn resolve_written(s: &[u8], key: u16) -> u16
-    requires { ⌜ Faultless (now s) ⌝ }
-    ensures { λ r. ⌜ r ≡ written (numberOf (said (now (s .entry)))) key ⌝ }
+fn resolve_written(rows: &[Row], key: u16) -> u16
+    requires { ⌜ Low (now rows) ⌝ }
+    ensures { λ r. ⌜ r ≡ written (numberIn (now (rows .entry))) key ⌝ }
 {
     if key == NO_NAME {
         return 0;
     }
-    number_of(s, key)
+    number_of(rows, key)
 }
 
-fn resolve_operand(s: &[u8], operand: Operand) -> Operand
-    requires { ⌜ Faultless (now s) ⌝ }
+fn resolve_operand(rows: &[Row], operand: Operand) -> Operand
+    requires { ⌜ Low (now rows) ⌝ }
     requires { ⌜ KeyOperand operand ⌝ }
-    ensures { λ r. ⌜ r ≡ operandWith (numberOf (said (now (s .entry)))) operand ⌝ }
+    ensures { λ r. ⌜ r ≡ operandWith (numberIn (now (rows .entry))) operand ⌝ }
 {
     match operand {
         Operand::Nothing => Operand::Nothing,
         Operand::Literal(value) => Operand::Literal(value),
-        Operand::Variable(key) => Operand::Variable(number_of(s, key as u16) as u32),
+        Operand::Variable(key) => Operand::Variable(number_of(rows, key as u16) as u32),
     }
 }
 
 // A cell with the places and the numbers of its names in their stead.
-fn resolve(s: &[u8], cell: Cell) -> Cell
-    requires { ⌜ Faultless (now s) ⌝ }
+fn resolve(rows: &[Row], cell: Cell) -> Cell
+    requires { ⌜ Low (now rows) ⌝ }
     requires { ⌜ Keyed cell ⌝ }
-    ensures { λ r. ⌜ r ≡ resolved (placeOf (said (now (s .entry)))) (numberOf (said (now (s .entry)))) cell ⌝ }
+    ensures { λ r. ⌜ r ≡ resolved (placeIn (now (rows .entry))) (numberIn (now (rows .entry))) cell ⌝ }
 {
     let first = cell.left;
     let second = cell.right;
-    let written = resolve_written(s, cell.written);
-    let left = resolve_operand(s, first);
-    let right = resolve_operand(s, second);
-    let target = resolve_target(s, cell.target);
+    let written = resolve_written(rows, cell.written);
+    let left = resolve_operand(rows, first);
+    let right = resolve_operand(rows, second);
+    let target = resolve_target(rows, cell.target);
     Cell {
         operation: cell.operation,
         written,
@@ -110,17 +111,17 @@ fn resolve(s: &[u8], cell: Cell) -> Cell
 }
 
 // Puts what a line of the text says at its place, and tells the places behind it.
-fn emit_line(s: &[u8], buffer: &mut [u8], reading: Reading, places: Places) -> Places
-    requires { ⌜ Faultless (now s) ⌝ }
+fn emit_line(rows: &[Row], buffer: &mut [u8], reading: Reading, places: Places) -> Places
+    requires { ⌜ Low (now rows) ⌝ }
     requires { ⌜ Keyed (reading .cell) ⌝ }
     requires { ⌜ Within 4294967296 places ⌝ }
-    ensures { λ r. ⌜ (r ≡ placesBy (said (now (s .entry))) reading places) × (now (buffer .exit) ≡ emittedBy (said (now (s .entry))) reading places (now (buffer .entry))) ⌝ }
+    ensures { λ r. ⌜ (r ≡ placesBy (now (rows .entry)) reading places) × (now (buffer .exit) ≡ emittedBy (now (rows .entry)) reading places (now (buffer .entry))) ⌝ }
 {
     let kind = reading.kind;
     let cell = reading.cell;
     let mut next = places;
     if kind == Reading::ACTS {
-        image::write_cell(buffer, places.cell, resolve(s, cell));
+        image::write_cell(buffer, places.cell, resolve(rows, cell));
         next.cell = places.cell + CELL_BYTES;
         return next;
     }
@@ -129,7 +130,7 @@ fn emit_line(s: &[u8], buffer: &mut [u8], reading: Reading, places: Places) -> P
             buffer,
             places.label,
             reading.name,
-            place_of(s, reading.name),
+            place_of(rows, reading.name),
         );
         next.label = places.label + LABEL_BYTES;
         return next;
@@ -142,9 +143,10 @@ fn emit_line(s: &[u8], buffer: &mut [u8], reading: Reading, places: Places) -> P
     next
 }
 
-// Puts what the lines of the text say behind one another, from these places on.
-fn emit_lines(s: &[u8], buffer: &mut [u8], start: Places)
+// Puts what the lines of the text say behind one another, from these places on; the text's names are in these rows.
+fn emit_lines(s: &[u8], rows: &[Row], buffer: &mut [u8], start: Places)
     requires { ⌜ Faultless (now s) ⌝ }
+    requires { ⌜ now rows ≡ arranged (said (now s)) ⌝ }
     requires { ⌜ Within 65536 start ⌝ }
     ensures { λ r. ⌜ now (buffer .exit) ≡ emitFrom (cellPart (said (now (s .entry)))) (labelPart (said (now (s .entry)))) variablePart (start .cell) (start .label) (start .variable) (said (now (s .entry))) (now (buffer .entry)) ⌝ }
 {
@@ -154,15 +156,16 @@ fn emit_lines(s: &[u8], buffer: &mut [u8], start: Places)
         let span = text::line_at(s, at);
         let end = span.end;
         let reading = reading::read_line(&s[at..end]);
-        places = emit_line(s, buffer, reading, places);
+        places = emit_line(rows, buffer, reading, places);
         at = span.next;
     }
 }
 
-// The image of a text without a fault, into a buffer with room for it: the lines, and the trailer behind them.
-pub fn write_image(s: &[u8], buffer: &mut [u8], counts: Counts)
+// The image of a text without a fault whose names are in these rows, into a buffer with room for it: the lines, and the trailer behind them.
+pub fn write_image(s: &[u8], rows: &[Row], buffer: &mut [u8], counts: Counts)
     requires { ⌜ length (now s) ≤ 16384 ⌝ }
     requires { ⌜ firstFault (now s) .number ≡ 0 ⌝ }
+    requires { ⌜ now rows ≡ arranged (said (now s)) ⌝ }
     requires { ⌜ counts ≡ countsOf (said (now s)) ⌝ }
     requires { ⌜ imageLength (counts .cells) (counts .labels) (counts .variables) ≤ length (now buffer) ⌝ }
     ensures { λ r. ⌜ now (buffer .exit) ≡ imageOf (said (now (s .entry))) ++ drop (length (imageOf (said (now (s .entry))))) (now (buffer .entry)) ⌝ }
@@ -175,7 +178,7 @@ pub fn write_image(s: &[u8], buffer: &mut [u8], counts: Counts)
         label: image::label_place(cells, 0),
         variable: image::variable_place(cells, labels, 0),
     };
-    emit_lines(s, buffer, places);
+    emit_lines(s, rows, buffer, places);
     let trailer = image::variable_place(cells, labels, variables);
     image::write_trailer(buffer, trailer, cells, labels, variables);
 }

@@ -12,8 +12,8 @@ pub resolve-spec : {M : Type 1} → statement M
 resolve-spec =
     tie.close
     (tie.spec
-    (search needs)
+    (λ c κs. search needs)
     (λ c. search needs)
     (λ c. search needs)
-    (search needs)
+    (λ c κs. search needs)
     returns)

@@ -9,7 +9,7 @@ use Rattle.translation.proofs.resolve_operand.Statement.{statement}
 use Rattle.translation.proofs.resolve_operand.Tie as tie
 
 cast-number-of : tie.Need-cast-number-of
-cast-number-of c = omega (arith, keyed-variable _ _ (c .before .operand2 .given .1) (c .before .before .before .before .pre .1))
+cast-number-of c = omega (arith, keyed-variable _ _ (c .before .operand2 .given .1) (c .before .before .before .pre .1))
 
 returns-2 : tie.Need-returns-2
 returns-2 c = rw (c .before .operand .given .1) (ap O.Literal (search needs))
@@ -25,7 +25,7 @@ resolve-operand-spec =
     (search needs)
     (search needs)
     cast-number-of
-    (search needs)
+    (λ c κs. search needs)
     (search needs)
     (λ c. search needs)
     returns-2

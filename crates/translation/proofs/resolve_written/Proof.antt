@@ -12,4 +12,4 @@ returns-2 : tie.Need-returns-2
 returns-2 c = rw (ne-eqb _ 0 (c .before .if1 .left)) (c .number-of .ensures)
 
 pub resolve-written-spec : {M : Type 1} → statement M
-resolve-written-spec = tie.close (tie.spec returns (search needs) returns-2)
+resolve-written-spec = tie.close (tie.spec returns (λ c κs. search needs) returns-2)
