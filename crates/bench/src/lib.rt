@@ -44,7 +44,8 @@ pub fn translate(text: &[u8], image: &mut [u8]) -> Translated
     if answers::LONGEST_TEXT < text.len() {
         return answers::not_translated(answers::LONG_TEXT, 0);
     }
-    let survey = names::survey_lines(text);
+    let rows = names::arrange(text);
+    let survey = names::survey_lines(text, &rows);
     let fault = survey.fault;
     if fault.number != 0 {
         return answers::not_translated(fault.number, fault.line);
@@ -58,7 +59,7 @@ pub fn translate(text: &[u8], image: &mut [u8]) -> Translated
     if image.len() < length {
         return answers::not_translated(answers::SHORT_BUFFER, 0);
     }
-    translation::write_image(text, image, counts);
+    translation::write_image(text, &rows, image, counts);
     Translated {
         number: 0,
         line: 0,
