@@ -191,55 +191,64 @@ static const u8 *line_next(const u8 *at, const u8 *end) {
     return *at == '\n' ? at + 1 : at + 2;
 }
 
-struct found { u8 kind; u32 cells, variables; };
+/* The names of a text: a row for each name of two characters, in order. */
 
-/* The kind that a line has by its first word, if it has no fault. */
-static u8 head(struct cursor *c) {
-    if (done(c) || *c->at == '\'') return BLANK;
-    u16 first = word(c);
-    return first == KEY('L', 'B') ? LABEL : first == KEY('V', 'A') ? DECLARED : ACTS;
+enum { ROWS = 936 };
+
+struct row { u8 kind; u32 line, place; };
+
+static u32 row_of(u16 key) {
+    u32 first = key % 256, second = key / 256;
+    if (!two_characters(key)) return ROWS;
+    return (first - 'A') * 36 + (digit(second) ? second - '0' : second - 'A' + 10);
 }
 
-/* The first line that declares a name, sought from the front by the first two words of each line. The counts are right in a text without a fault. */
-static struct found find(const u8 *text, const u8 *end, u16 name) {
-    struct found f = { 0 };
-    while (text < end) {
+static struct row look_up(const struct row *rows, u16 key) {
+    u32 i = row_of(key);
+    return i < ROWS ? rows[i] : (struct row){ 0 };
+}
+
+/* The first line that declares a name has its row. */
+static void enter(struct row *rows, u16 key, struct row row) {
+    u32 i = row_of(key);
+    if (i < ROWS && !rows[i].kind) rows[i] = row;
+}
+
+static void arrange(const u8 *text, const u8 *end, struct row *rows) {
+    u32 cells = 0, variables = 0;
+    for (u32 i = 0; i < ROWS; i++) rows[i] = (struct row){ 0 };
+    for (u32 line = 1; text < end; line++) {
         const u8 *stop = line_end(text, end);
-        struct cursor c = { text, stop, 0 };
-        u8 kind = head(&c);
-        if ((kind == LABEL || kind == DECLARED) && word(&c) == name && (f.kind = read_line(text, stop).kind)) return f;
-        f.cells += kind == ACTS;
-        f.variables += kind == DECLARED;
+        struct line l = read_line(text, stop);
+        if (l.kind == LABEL) enter(rows, l.name, (struct row){ LABEL, line, cells });
+        if (l.kind == DECLARED) enter(rows, l.name, (struct row){ DECLARED, line, variables });
+        cells += l.kind == ACTS;
+        variables += l.kind == DECLARED;
         text = line_next(stop, end);
     }
-    return f;
 }
 
-static int unknown_variable(const u8 *text, const u8 *end, u16 key) {
-    return !paper_variable(key) && find(text, end, key).kind != DECLARED;
-}
+static int unknown_variable(const struct row *rows, u16 key) { return look_up(rows, key).kind != DECLARED && !paper_variable(key); }
 
-static int unknown_operand(const u8 *text, const u8 *end, struct operand o) {
-    return o.shape == VARIABLE && unknown_variable(text, end, o.number);
-}
+static int unknown_operand(const struct row *rows, struct operand o) { return o.shape == VARIABLE && unknown_variable(rows, o.number); }
 
-static int undeclared(const u8 *text, const u8 *end, const struct cell *c) {
-    if (c->target != 0 && c->target != NONE && find(text, end, c->target).kind != LABEL) return 1;
-    if (c->written != 0 && unknown_variable(text, end, c->written)) return 1;
-    return unknown_operand(text, end, c->left) || unknown_operand(text, end, c->right);
+static int undeclared(const struct row *rows, const struct cell *c) {
+    if (c->target != 0 && c->target != NONE && look_up(rows, c->target).kind != LABEL) return 1;
+    if (c->written != 0 && unknown_variable(rows, c->written)) return 1;
+    return unknown_operand(rows, c->left) || unknown_operand(rows, c->right);
 }
 
 static int read_only(u32 v) { return MV <= v && v <= IN; }
 
 struct counts { u32 cells, labels, variables; };
 
-static u8 line_fault(const u8 *text, const u8 *end, const u8 *here, struct counts n, const struct line *l) {
+static u8 line_fault(const struct row *rows, u32 line, struct counts n, const struct line *l) {
     if (l->fault) return l->fault;
-    if ((l->kind == LABEL || l->kind == DECLARED) && find(text, here, l->name).kind) return 6;
+    if ((l->kind == LABEL || l->kind == DECLARED) && look_up(rows, l->name).line < line) return 6;
     if (l->kind == ACTS && 256 <= n.cells) return 7;
     if (l->kind == LABEL && 160 <= n.labels) return 7;
     if (l->kind == DECLARED && 32 <= n.variables) return 7;
-    if (undeclared(text, end, &l->cell)) return 8;
+    if (undeclared(rows, &l->cell)) return 8;
     if (l->cell.written && read_only(paper_variable(l->cell.written))) return 9;
     return 0;
 }
@@ -251,33 +260,31 @@ static u32 read4(const u8 *p) { return p[0] | p[1] << 8 | p[2] << 16 | (u32)p[3]
 static void write2(u8 *p, u32 n) { p[0] = n; p[1] = n >> 8; }
 static void write4(u8 *p, u32 n) { write2(p, n); write2(p + 2, n >> 16); }
 
-static u32 number_of(const u8 *text, const u8 *end, u16 key) {
-    u32 n = paper_variable(key);
-    return n ? n : USER + find(text, end, key).variables;
+static u32 number_of(const struct row *rows, u16 key) {
+    struct row row = look_up(rows, key);
+    return row.kind == DECLARED ? USER + row.place : paper_variable(key);
 }
 
-static u32 operand_bits(const u8 *text, const u8 *end, struct operand o) {
-    return o.shape == VARIABLE ? number_of(text, end, o.number) : (u32)o.number;
-}
+static u32 operand_bits(const struct row *rows, struct operand o) { return o.shape == VARIABLE ? number_of(rows, o.number) : (u32)o.number; }
 
-static void write_cell(const u8 *text, const u8 *end, u8 *p, const struct cell *c) {
+static void write_cell(const struct row *rows, u8 *p, const struct cell *c) {
     p[0] = c->operation;
-    p[1] = c->written ? number_of(text, end, c->written) : 0;
+    p[1] = c->written ? number_of(rows, c->written) : 0;
     p[2] = c->selector;
     p[3] = c->left.shape + 4 * c->right.shape;
-    write4(p + 4, operand_bits(text, end, c->left));
-    write4(p + 8, operand_bits(text, end, c->right));
-    write2(p + 12, c->target == 0 || c->target == NONE ? c->target : find(text, end, c->target).cells);
+    write4(p + 4, operand_bits(rows, c->left));
+    write4(p + 8, operand_bits(rows, c->right));
+    write2(p + 12, c->target == 0 || c->target == NONE ? c->target : look_up(rows, c->target).place);
     write2(p + 14, 0);
 }
 
-static void write_image(const u8 *text, const u8 *end, u8 *image, struct counts n) {
+static void write_image(const u8 *text, const u8 *end, const struct row *rows, u8 *image, struct counts n) {
     u8 *cell = image, *label = image + 16 * n.cells, *variable = label + 4 * n.labels, *trailer = variable + 8 * n.variables;
     for (const u8 *at = text; at < end;) {
         const u8 *stop = line_end(at, end);
         struct line l = read_line(at, stop);
-        if (l.kind == ACTS) { write_cell(text, end, cell, &l.cell); cell += 16; }
-        if (l.kind == LABEL) { write2(label, l.name); write2(label + 2, find(text, end, l.name).cells); label += 4; }
+        if (l.kind == ACTS) { write_cell(rows, cell, &l.cell); cell += 16; }
+        if (l.kind == LABEL) { write2(label, l.name); write2(label + 2, look_up(rows, l.name).place); label += 4; }
         if (l.kind == DECLARED) { write2(variable, l.name); write2(variable + 2, 0); write4(variable + 4, l.start); variable += 8; }
         at = line_next(stop, end);
     }
@@ -293,12 +300,14 @@ struct translated translate(const u8 *text, u32 size, u8 *image, u32 room) {
     struct translated t = { 0 };
     struct counts n = { 0 };
     const u8 *end = text + size;
+    struct row rows[ROWS];
     u32 line = 1;
     if (16384 < size) { t.number = 1; return t; }
+    arrange(text, end, rows);
     for (const u8 *at = text; at < end; line++) {
         const u8 *stop = line_end(at, end);
         struct line l = read_line(at, stop);
-        u8 fault = line_fault(text, end, at, n, &l);
+        u8 fault = line_fault(rows, line, n, &l);
         if (fault) { t.number = fault; t.line = line; return t; }
         n.cells += l.kind == ACTS;
         n.labels += l.kind == LABEL;
@@ -307,7 +316,7 @@ struct translated translate(const u8 *text, u32 size, u8 *image, u32 room) {
     }
     u32 length = 16 * n.cells + 4 * n.labels + 8 * n.variables + 16;
     if (room < length) { t.number = 10; return t; }
-    write_image(text, end, image, n);
+    write_image(text, end, rows, image, n);
     t.length = length;
     return t;
 }

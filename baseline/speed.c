@@ -21,30 +21,43 @@ static u8 *put_line(u8 *at, const char *before, char letter, u32 number, const c
     return at;
 }
 
-static u8 *put_middle(u8 *at, u32 b) {
-    switch (b % 4) {
-    case 0: return put_line(at, "", 'U', (b + 11) % BLOCKS, "=R1&255", CELL_LINE);
-    case 1: return put_line(at, "MR ", 'U', b, "", CELL_LINE);
-    case 2: return put_line(at, "R2=", 'U', b, "/3", CELL_LINE);
+/* A statement of a block, one of eight: the fifth is one of four, by the block's number. */
+static u8 *put_statement(u8 *at, u32 b, u32 blocks, u32 which) {
+    switch (which < 4 ? which : which == 4 ? 4 + b % 4 : which + 3) {
+    case 0: return put_line(at, "IC ", 'U', b, "", CELL_LINE);
+    case 1: return put_line(at, "R1=", 'U', b, "*3", CELL_LINE);
+    case 2: return put_line(at, "O1=", 'U', b, "&1", CELL_LINE);
+    case 3: return put_line(at, "BR ", 'Q', b, ",IN>=8", CELL_LINE);
+    case 4: return put_line(at, "", 'U', (b + 11) % blocks, "=R1&255", CELL_LINE);
+    case 5: return put_line(at, "MR ", 'U', b, "", CELL_LINE);
+    case 6: return put_line(at, "R2=", 'U', b, "/3", CELL_LINE);
+    case 7: return put_line(at, "R3=", 'U', b, "^5", CELL_LINE);
+    case 8: return put_line(at, "PR ", 'U', b, "", CELL_LINE);
+    case 9: return put_line(at, "BR ", 'G', b, ",R1<30", CELL_LINE);
     }
-    return put_line(at, "R3=", 'U', b, "^5", CELL_LINE);
+    return put_line(at, "BR ", 'G', (b + 13) % blocks, "", CELL_LINE);
 }
 
+/* A declaration of a block, one of six. */
+static u8 *put_declaration(u8 *at, u32 b, u32 which) {
+    if (which == 0) return put_line(at, "VA ", 'U', b, "=7", NAME_LINE);
+    return put_line(at, "LB ", " GJKQW"[which], b, "", NAME_LINE);
+}
+
+/* The lines of a block in their order: the declarations by letter, the statements by digit. */
 static u8 *put_block(u8 *at, u32 b) {
-    at = put_line(at, "VA ", 'U', b, "=7", NAME_LINE);
-    at = put_line(at, "LB ", 'G', b, "", NAME_LINE);
-    at = put_line(at, "IC ", 'U', b, "", CELL_LINE);
-    at = put_line(at, "LB ", 'J', b, "", NAME_LINE);
-    at = put_line(at, "R1=", 'U', b, "*3", CELL_LINE);
-    at = put_line(at, "O1=", 'U', b, "&1", CELL_LINE);
-    at = put_line(at, "LB ", 'K', b, "", NAME_LINE);
-    at = put_line(at, "BR ", 'Q', b, ",IN>=8", CELL_LINE);
-    at = put_middle(at, b);
-    at = put_line(at, "LB ", 'Q', b, "", NAME_LINE);
-    at = put_line(at, "PR ", 'U', b, "", CELL_LINE);
-    at = put_line(at, "LB ", 'W', b, "", NAME_LINE);
-    at = put_line(at, "BR ", 'G', b, ",R1<30", CELL_LINE);
-    return put_line(at, "BR ", 'G', (b + 13) % BLOCKS, "", CELL_LINE);
+    for (const char *c = "ab0c12d34e5f67"; *c; c++) at = *c < 'a' ? put_statement(at, b, BLOCKS, *c - '0') : put_declaration(at, b, *c - 'a');
+    return at;
+}
+
+/* So many blocks with the declarations behind all statements. */
+static u32 put_late(u32 blocks) {
+    u8 *at = text;
+    for (u32 b = 0; b < blocks; b++)
+        for (u32 k = 0; k < 8; k++) at = put_statement(at, b, blocks, k);
+    for (u32 b = 0; b < blocks; b++)
+        for (u32 k = 0; k < 6; k++) at = put_declaration(at, b, k);
+    return at - text;
 }
 
 static void put_event(u8 *at, u32 k) {
@@ -80,10 +93,10 @@ static u64 mixed_state(u64 sum, const struct state *s) {
     return sum;
 }
 
-static u64 translate_times(u32 n) {
+static u64 translate_times(u32 n, u32 size) {
     u64 sum = 1;
     while (n--) {
-        struct translated t = translate(text, TEXT, image, sizeof image);
+        struct translated t = translate(text, size, image, sizeof image);
         sum = mixed(mixed(mixed(sum, t.number), t.line), t.length);
     }
     return mixed_bytes(sum, image, sizeof image);
@@ -111,7 +124,7 @@ static int same(const char *a, const char *b) {
 }
 
 int main(int count, char **words) {
-    static const char usage[] = "usage: speed translate|check|run|calls N\n";
+    static const char usage[] = "usage: speed translate|half|quarter|check|run|calls N\n";
     char line[24];
     u32 n = 0, at = sizeof line;
     u64 sum;
@@ -122,7 +135,9 @@ int main(int count, char **words) {
     int good = *digit != 0;
     for (; '0' <= *digit && *digit <= '9' && n < 100000000; digit++) n = n * 10 + (*digit - '0');
     good &= *digit == 0;
-    if (good && same(words[1], "translate")) sum = translate_times(n);
+    if (good && same(words[1], "translate")) sum = translate_times(n, put_late(BLOCKS));
+    else if (good && same(words[1], "half")) sum = translate_times(n, put_late(BLOCKS / 2));
+    else if (good && same(words[1], "quarter")) sum = translate_times(n, put_late(BLOCKS / 4));
     else if (good && same(words[1], "check")) { translate(text, TEXT, image, sizeof image); sum = check_times(n); }
     else if (good && same(words[1], "run")) { translate(text, TEXT, image, sizeof image); sum = run_times(n, sizeof image, sizeof events); }
     else if (good && same(words[1], "calls")) {

@@ -36,9 +36,9 @@ const OPERATOR: u16 = 7;
 
 const COMPARISON: u16 = 8;
 
-pub const LB: u16 = (b'L' as u16) + BYTE * (b'B' as u16);
+const LB: u16 = (b'L' as u16) + BYTE * (b'B' as u16);
 
-pub const VA: u16 = (b'V' as u16) + BYTE * (b'A' as u16);
+const VA: u16 = (b'V' as u16) + BYTE * (b'A' as u16);
 
 const IC: u16 = (b'I' as u16) + BYTE * (b'C' as u16);
 

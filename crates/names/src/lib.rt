@@ -5,7 +5,7 @@ ghost use lib.ListN.{length};
 ghost use Rattle.program.specs.Code.{nameOf};
 ghost use Rattle.text.specs.Faults.{said};
 ghost use Rattle.reading.specs.Code.{declaring};
-ghost use Rattle.rows.specs.Rows.{arranged};
+ghost use Rattle.rows.specs.Rows.{rowAt, arranged};
 ghost use Rattle.names.specs.Code.{Surveyed, nonePassed, Reached, OnePassed, AllJudged, Keyed, KeyOperand, Below, plus, enteredBy, unknownVariableIn, unknownTarget, unknownWritten, unknownOperand, unknownCell, readOnlyKey, repeatedKey, tooManyBy, counted, faultBy};
 use program::Cell;
 use program::Operand;
@@ -101,6 +101,14 @@ pub fn arrange(s: &[u8]) -> [Row; rows::COUNT]
         at = span.next;
     }
     rows
+}
+
+// What stands in the row of the name with this key, once the names of a text are arranged.
+pub fn declared_as(s: &[u8], key: u16) -> Row
+    ensures { λ r. ⌜ r ≡ rowAt (arranged (said (now (s .entry)))) (nameOf key) ⌝ }
+{
+    let rows = arrange(s);
+    rows::look_up(&rows, key)
 }
 
 // No variable of the paper's, and not first declared as a variable.

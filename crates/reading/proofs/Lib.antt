@@ -3,4 +3,3 @@ pub mod Parts
 pub mod Rows
 pub mod Readings
 pub mod Heard
-pub mod Openings

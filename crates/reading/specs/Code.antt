@@ -23,7 +23,6 @@ use Rattle.text.specs.Code.{packed}
 use Rattle.forms.specs.Code.{noMatch, fillBy, slotsOf, partsOf}
 use Rattle.text.specs.declared.tokens.Tokens.{Tokens}
 use Rattle.reading.specs.declared.Reading.{Reading}
-use Rattle.reading.specs.declared.heads.Head.{Head}
 
 -- What each form says: 1 a label, 2 a variable, 3 a statement; its operation; and its shape: 1 one operand, 2 two, 3 no target.
 unfoldable pub sayTable : List (List ℕ)
@@ -140,28 +139,6 @@ readingOf l =
 -- A line of this kind declares a name.
 unfoldable pub declaring : ℕ → Bool
 declaring kind = eqb kind 1 || eqb kind 2
-
--- How many spaces a line starts with.
-unfoldable pub spaces : List ℕ → ℕ
-spaces [] = 0
-spaces (c ∷ cs) = let more = suc (spaces cs) in cond (eqb c 32) more 0
-
--- What a line seems to say by its first two words: a kind, by the first character and the key of the first two; and a name's key.
-abbrev pub head : ℕ → ℕ → Head
-head kind name = record { kind = kind; name = name }
-
-unfoldable pub kindBy : ℕ → ℕ → ℕ
-kindBy c word = cond (eqb c 39) 0 (cond (eqb word 16972) 1 (cond (eqb word 16726) 2 3))
-
-unfoldable pub keyAfter : List ℕ → ℕ
-keyAfter l = number (take 2 (drop (spaces l) l))
-
-unfoldable pub headBy : List ℕ → Head
-headBy [] = head 0 0
-headBy (c ∷ cs) = head (kindBy c (number (take 2 (c ∷ cs)))) (keyAfter (drop 1 cs))
-
-unfoldable pub headOf : List ℕ → Head
-headOf l = headBy (drop (spaces l) l)
 
 -- A cell whose names are keys: its target is a label's key; a test of an operand that it holds.
 abbrev pub aimsAt : ℕ → Bool

@@ -14,7 +14,6 @@ ghost use Rattle.forms.specs.Code.{partsOf};
 ghost use Rattle.reading.specs.Code.{sayOf, faulty, sayBy, anyBig, readParts, formBy, formNumbers, statementBy, readingOf};
 
 pub mod cells;
-pub mod heads;
 
 // What a line says: its lowest fault from 2 to 5, or 0; its kind; the key of the name that it declares; a variable's start value;
 // and the cell of a statement, in which names are keys.

@@ -1,9 +1,9 @@
 // The programs that are measured, and as many events as a run takes, byte by byte.
 use events::Event;
 
-// The largest program is made of blocks of fourteen lines. In a block # stands for its character, @ and % for those of blocks further on. Its
-// ninth line is one of four, by the block's number. A variable counts up, an output is set, an input passes over the ninth line, a value is
-// printed, and a jump goes back or on.
+// The largest programs are made of blocks of fourteen lines: eight statements and six declarations. In a block # stands for its character, @ and
+// % for those of blocks further on. Its ninth line is one of four, by the block's number. A variable counts up, an output is set, an input passes
+// over the ninth line, a value is printed, and a jump goes back or on.
 const BLOCK_SIZE: usize = 512;
 
 const BLOCKS: usize = 32;
@@ -37,6 +37,17 @@ R3=U#^5 '...........................
 pub const TEXT_SIZE: usize = BLOCK_SIZE * BLOCKS;
 
 pub type Text = [u8; TEXT_SIZE];
+
+// Where the statements of a block stand in it, and the declarations; how long each of these lines is, and all of them together.
+const STATEMENTS: [usize; 8] = [72, 145, 182, 255, 292, 365, 438, 475];
+
+const DECLARATIONS: [usize; 6] = [0, 36, 109, 219, 329, 402];
+
+const DECLARATION: usize = 36;
+
+const ALL_STATEMENTS: usize = 296;
+
+const ALL_DECLARATIONS: usize = 216;
 
 // A program that calls eight deep and returns, again and again.
 pub const CALLS_SIZE: usize = 132;
@@ -82,18 +93,26 @@ fn character(block: usize) -> u8 {
     if n < 26 { b'A' + n } else { b'0' + (n - 26) }
 }
 
-// A byte of a block, with the character that it stands for.
-fn filled(b: u8, block: usize) -> u8 {
+// A byte of one of so many blocks, with the character that it stands for.
+fn filled(b: u8, block: usize, blocks: usize) -> u8 {
     if b == b'#' {
         return character(block);
     }
     if b == b'@' {
-        return character(block % BLOCKS + 13);
+        return character(further(block, 13, blocks));
     }
     if b == b'%' {
-        return character(block % BLOCKS + 11);
+        return character(further(block, 11, blocks));
     }
     b
+}
+
+// The block so many further on, from the front again behind the last.
+fn further(block: usize, count: usize, blocks: usize) -> usize {
+    if blocks == 0 {
+        return 0;
+    }
+    (block % BLOCKS + count % BLOCKS) % blocks
 }
 
 // A byte of each table; one function indexes it, once.
@@ -105,21 +124,55 @@ fn of_ninth(kind: usize, i: usize) -> u8 {
     NINTHS[kind % 4 * NINTH + i % NINTH]
 }
 
-fn letter(block: usize, i: usize) -> u8 {
+fn statement_start(k: usize) -> usize {
+    STATEMENTS[k % 8]
+}
+
+fn declaration_start(k: usize) -> usize {
+    DECLARATIONS[k % 6]
+}
+
+fn letter(block: usize, blocks: usize, i: usize) -> u8 {
     if BEFORE + NINTH <= i {
-        return filled(of_block(i), block);
+        return filled(of_block(i), block, blocks);
     }
     if BEFORE <= i {
-        return filled(of_ninth(block, i - BEFORE), block);
+        return filled(of_ninth(block, i - BEFORE), block, blocks);
     }
-    filled(of_block(i), block)
+    filled(of_block(i), block, blocks)
 }
 
 // The largest program.
 pub fn text() -> Text {
     let mut text = [0u8; TEXT_SIZE];
     for at in 0..TEXT_SIZE {
-        text[at] = letter(at / BLOCK_SIZE, at % BLOCK_SIZE);
+        text[at] = letter(at / BLOCK_SIZE, BLOCKS, at % BLOCK_SIZE);
+    }
+    text
+}
+
+// A byte of the statements of so many blocks, or of the declarations behind them.
+fn late_letter(blocks: usize, at: usize) -> u8 {
+    let statements = ALL_STATEMENTS * (blocks % (BLOCKS + 1));
+    if at < statements {
+        let i = at % ALL_STATEMENTS;
+        let start = statement_start(i / NINTH);
+        return letter(at / ALL_STATEMENTS, blocks, start % BLOCK_SIZE + i % NINTH);
+    }
+    let i = (at - statements) % ALL_DECLARATIONS;
+    let start = declaration_start(i / DECLARATION);
+    letter(
+        (at - statements) / ALL_DECLARATIONS,
+        blocks,
+        start % BLOCK_SIZE + i % DECLARATION,
+    )
+}
+
+// A program of so many bytes that declares its names behind all of its statements.
+pub fn late_text(size: usize) -> Text {
+    let mut text = [0u8; TEXT_SIZE];
+    for at in 0..TEXT_SIZE {
+        text[at] = late_letter(size / BLOCK_SIZE, at);
     }
     text
 }

@@ -1,5 +1,6 @@
 // Repeats one of the bench's three calls, and writes a checksum of the answers and of the buffer that the call fills or reads. The arguments are
-// what is repeated, and how many times: `translate`, `check` and `run` take the largest program, and `calls` runs one that calls and returns.
+// what is repeated, and how many times: `translate` takes the largest program with its names declared behind all statements, `half` and
+// `quarter` so much of it; `check` and `run` take the largest program, and `calls` runs one that calls and returns.
 mod build;
 mod sums;
 
@@ -27,9 +28,19 @@ const RUN: u8 = 3;
 
 const CALLS: u8 = 4;
 
+const HALF: u8 = 5;
+
+const QUARTER: u8 = 6;
+
 fn task(word: &[u8]) -> u8 {
     if parts::same(word, b"translate") {
         return TRANSLATE;
+    }
+    if parts::same(word, b"half") {
+        return HALF;
+    }
+    if parts::same(word, b"quarter") {
+        return QUARTER;
     }
     if parts::same(word, b"check") {
         return CHECK;
@@ -83,9 +94,21 @@ fn on_image(task: u8, times: u64, text: &[u8], events: &[u8]) -> u64 {
     runs(times, image, events)
 }
 
-fn on_text(times: u64, text: &[u8]) -> u64 {
+// How many bytes of text a task translates.
+fn size(task: u8) -> usize {
+    if task == HALF {
+        return build::TEXT_SIZE / 2;
+    }
+    if task == QUARTER {
+        return build::TEXT_SIZE / 4;
+    }
+    build::TEXT_SIZE
+}
+
+fn on_text(times: u64, size: usize) -> u64 {
+    let text = build::late_text(size);
     let mut image = [0u8; LONGEST_IMAGE];
-    translate(times, text, &mut image)
+    translate(times, parts::front(&text, size), &mut image)
 }
 
 fn on_calls(times: u64) -> u64 {
@@ -95,9 +118,6 @@ fn on_calls(times: u64) -> u64 {
 
 fn on_largest(task: u8, times: u64) -> u64 {
     let text = build::text();
-    if task == TRANSLATE {
-        return on_text(times, &text);
-    }
     let events = build::events();
     on_image(task, times, &text, &events)
 }
@@ -106,11 +126,17 @@ fn repeat(task: u8, times: u64) -> u64 {
     if task == CALLS {
         return on_calls(times);
     }
-    on_largest(task, times)
+    if (task == CHECK) | (task == RUN) {
+        return on_largest(task, times);
+    }
+    on_text(times, size(task))
 }
 
 fn tell_usage() {
-    io::write_all(STDERR_FILENO, b"usage: speed translate|check|run|calls N\n");
+    io::write_all(
+        STDERR_FILENO,
+        b"usage: speed translate|half|quarter|check|run|calls N\n",
+    );
 }
 
 fn start(task: u8, times: scripts::Number) {

@@ -96,11 +96,12 @@ fn of_user(text: &[u8], run: &[u8], is_label: bool) -> u32 {
     if !is_user_name(key) {
         return NOTHING;
     }
-    let found = names::declared_as(text, key);
-    if found == Reading::LABEL {
+    let row = names::declared_as(text, key);
+    let kind = row[rows::KIND];
+    if kind == rows::LABEL {
         return number_if(!is_label, IS_LABEL);
     }
-    if found == Reading::DECLARED {
+    if kind == rows::VARIABLE {
         return number_if(is_label, IS_VARIABLE);
     }
     UNDECLARED

@@ -109,7 +109,7 @@ prefixed-ends [] c g ts = refl
 prefixed-ends (a ∷ w) c g ts = ap (ontoFirstToken a) (prefixed-ends w c g ts)
 
 -- Nothing belongs together with a space behind it.
-pub joins-space : (c : ℕ) → joins c 32 ≡ false
+joins-space : (c : ℕ) → joins c 32 ≡ false
 unfolding joins wordCharacter letter digit
 joins-space c = pick (leb 65 c && leb c 90 || leb 48 c && leb c 57) (eqb c 60) (eqb c 62)
   where
