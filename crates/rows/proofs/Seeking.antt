@@ -102,8 +102,8 @@ enter-long rows w r = pick (ltb 0 (kind (rowAt rows w)))
 entered-long : (n cells variables : ℕ) (x : Line) (rows : List Row) → length (entered n cells variables x rows) ≡ length rows
 unfolding entered
 entered-long n c v Blank rows = refl
-entered-long n c v (Label w) rows = enter-long rows w (row 1 n c)
-entered-long n c v (Declared w z) rows = enter-long rows w (row 2 n v)
+entered-long n c v (Label w) rows = enter-long rows w _
+entered-long n c v (Declared w z) rows = enter-long rows w _
 entered-long n c v (Acts s) rows = refl
 
 -- The row that a line makes.
