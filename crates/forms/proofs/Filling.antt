@@ -1,7 +1,7 @@
 -- The slots that the code walks took what the paper's slots took, and so does a whole form.
 -- Assumes nothing.
 use mathlib.Core.Path.{_≡_, refl, sym, ap, ap₂, subst, _∙_}
-use mathlib.Core.Bool.{Bool, true, false, cond, _&&_, not, true≢false, and-false}
+use mathlib.Core.Bool.{Bool, true, false, cond, _&&_, _||_, not, true≢false, and-false}
 use mathlib.Core.List.{List, [], _∷_}
 use mathlib.Core.Option.{Option, none, some}
 use Prim.Native.Nat.{ℕ, zero, suc, _+_, _-_, _≤_, _<_, max}
@@ -46,11 +46,22 @@ pub data Kind : ℕ → Slot → Type 0 where
   comparison : Kind 8 Comparing
   fixed : (n : ℕ) → T (ltb 8 n) → Kind n (Is (nameOf n))
 
--- The slots of a form; 0 is none.
+-- The slots of a form; 0 is the end of them.
 pub data Slots : List ℕ → List Slot → Type 0 where
   end : Slots [] []
-  skip : {ns : List ℕ} {ss : List Slot} → Slots ns ss → Slots (0 ∷ ns) ss
+  rest : {ns : List ℕ} → Slots (0 ∷ ns) []
   slot : {n : ℕ} {s : Slot} {ns : List ℕ} {ss : List Slot} → Kind n s → Slots ns ss → Slots (n ∷ ns) (s ∷ ss)
+
+some-slot : {n : ℕ} {s : Slot} → Kind n s → eqb n 0 ≡ false
+some-slot new = refl
+some-slot target = refl
+some-slot written = refl
+some-slot left = refl
+some-slot right = refl
+some-slot start = refl
+some-slot operator = refl
+some-slot comparison = refl
+some-slot (fixed n t) = let h : 8 < n = ltb-true 8 n (is-true (ltb 8 n) t) in ne-eqb n 0 (λ e. omega arith)
 
 -- The first token, packed; none where there is none.
 abbrev pub front : List Paper.Token → Token
@@ -271,11 +282,10 @@ after-onward : (whole : List Paper.Token) (m : Match) (b : Bool) (used : ℕ) �
 after-onward whole m b used e =
     ap₂ (λ (x : Bool) (ts : List Paper.Token). whether x (partsOf m) ts) (sym (ap (λ (x : Bool). x && b) e)) (drop-drop used (m .place) whole)
 
-slot-fixed : (m : Match) (n : ℕ) (t u : Token) → 8 < n → slotBy m n t u ≡ onward m (eqb n (t .key)) 1
+pub slot-fixed : (m : Match) (n : ℕ) (t u : Token) → 8 < n → slotBy m n t u ≡ onward m (eqb n (t .key)) 1
 unfolding slotBy wordBy keptBy fitsBy
 slot-fixed m n t u h =
     simp (
-      ne-eqb n 0 (λ e. omega arith),
       ne-eqb n 1 (λ e. omega arith),
       ne-eqb n 2 (λ e. omega arith),
       ne-eqb n 3 (λ e. omega arith),
@@ -407,19 +417,24 @@ module _ (whole : List Paper.Token) (g : Goods whole) (at : List Token) (read : 
       ap₂ (λ (t u : Token). slotBy m n t u) (read (m .place))
       (read (m .place + 1) ∙ ap front (sym (drop-drop 1 (m .place) whole)))
 
-  pub fill-law : {ns : List ℕ} {ss : List Slot} → Slots ns ss → (m : Match) → m .ok ≡ true → m .place ≤ length whole
-      → fill ss (drop (m .place) whole) (partsOf m) ≡ finish whole (fillBy ns at m)
-  unfolding fill fillBy slotBy
-  fill-law end m e h =
+  all-filled : (m : Match) → m .ok ≡ true → m .place ≤ length whole → fill [] (drop (m .place) whole) (partsOf m) ≡ finish whole m
+  all-filled m e h =
       none-left (drop (m .place) whole) (partsOf m)
       ∙ ap (λ (b : Bool). cond b (some (partsOf m)) none)
       (ap (λ (k : ℕ). eqb k 0) (length-drop (m .place) whole) ∙ at-end (length whole) (m .place) h ∙ sym (ap (λ (b : Bool). b && eqb (m .place) (length whole)) e))
-  fill-law (skip {ns} r) m e h = fill-law r m e h ∙ ap (finish whole) (sym (cond-yes (m .ok) (fillBy ns at m) m e))
+
+  pub fill-law : {ns : List ℕ} {ss : List Slot} → Slots ns ss → (m : Match) → m .ok ≡ true → m .place ≤ length whole
+      → fill ss (drop (m .place) whole) (partsOf m) ≡ finish whole (fillBy ns at m)
+  unfolding fill fillBy slotBy
+  fill-law end m e h = all-filled m e h
+  fill-law rest m e h = all-filled m e h
   fill-law (slot {n} {s} {ns} {ss} k r) m e h =
-      ap (goOn ss) law ∙ pick (next .ok) refl (λ f b. fill-law r next f b) ∙ ap (finish whole) (sym (cond-yes (m .ok) _ m e ∙ ap (fillBy ns at) (slot-next n m)))
+      ap (goOn ss) law
+      ∙ pick (next .ok) refl (λ f b. fill-law r next f b)
+      ∙ ap (finish whole) (sym (cond-no (eqb n 0 || not (m .ok)) m _ goes ∙ ap (fillBy ns at) (slot-next n m)))
     where
-      here : List Paper.Token
-      here = drop (m .place) whole
+      goes : (eqb n 0 || not (m .ok)) ≡ false
+      goes = rw (some-slot k, e)
 
       next : Match
       next = slotBy m n (front (drop (m .place) whole)) (front (drop 1 (drop (m .place) whole)))

@@ -1,3 +1,4 @@
 pub mod Matching
 pub mod Filling
+pub mod Choosing
 pub mod Packed

@@ -1,7 +1,7 @@
 -- What the functions that match tokens with forms need of their values.
 -- Assumes nothing.
 use mathlib.Core.Path.{_≡_, refl, sym, ap, _∙_}
-use mathlib.Core.Bool.{Bool, true, false, cond, _&&_, _||_}
+use mathlib.Core.Bool.{Bool, true, false, cond, _&&_, _||_, not, or-true}
 use mathlib.Core.List.{List, [], _∷_}
 use Prim.Native.Nat.{ℕ, zero, suc, _+_, _≤_, _<_}
 use native.Mathlib.Nat.{not-suc-le-zero, le-of-suc-le-suc}
@@ -50,37 +50,47 @@ found-used slot t u = used-cond (eqb slot 6) _ _ (literal-used t u) (operand-use
 cond-true : (t : Bool) (x y : Match) → t ≡ true → cond t x y ≡ x
 cond-true t x y e = rw e
 
+cond-false : (t : Bool) (x y : Match) → t ≡ false → cond t x y ≡ y
+cond-false t x y e = rw e
+
 -- The slots one after the other.
 module _ (ts : List Token) (m : Match) where
   pub fill-stop : (ss : List ℕ) → m .ok ≡ false → fillBy ss ts m ≡ m
   unfolding fillBy
   fill-stop [] e = refl
-  fill-stop (s ∷ ss) e = rw e
+  fill-stop (s ∷ ss) e = cond-true (eqb s 0 || not (m .ok)) _ _ (rw e (or-true (eqb s 0)))
 
-  pub fill-more : (l : List ℕ) (k : ℕ) {s : ℕ} {t u : Token} {n : Match} → k < length l → m .ok ≡ true → s ≡ getD l k 0
+  pub fill-over : (l : List ℕ) (k : ℕ) {s : ℕ} → k < length l → s ≡ getD l k 0 → (eqb s 0 || not (m .ok)) ≡ true → m ≡ fillBy (drop k l) ts m
+  unfolding fillBy
+  fill-over l k h p e =
+      let f : (eqb (getD l k 0) 0 || not (m .ok)) ≡ true = rw p at e in
+      sym (ap (λ (x : List ℕ). fillBy x ts m) (drop-cons l k 0 h) ∙ cond-true (eqb (getD l k 0) 0 || not (m .ok)) _ _ f)
+
+  pub fill-more : (l : List ℕ) (k : ℕ) {s : ℕ} {t u : Token} {n : Match} → k < length l → s ≡ getD l k 0 → (eqb s 0 || not (m .ok)) ≡ false
       → t ≡ tokenAt ts (m .place) → u ≡ tokenAt ts (m .place + 1) → n ≡ slotBy m s t u
       → fillBy (drop (k + 1) l) ts n ≡ fillBy (drop k l) ts m
   unfolding fillBy
-  fill-more l k h e p q r f =
+  fill-more l k h p e q r f =
+      let g : (eqb (getD l k 0) 0 || not (m .ok)) ≡ false = rw p at e in
       rw (add-one, f, p, q, r)
-      (sym (ap (λ (x : List ℕ). fillBy x ts m) (drop-cons l k 0 h) ∙ cond-true (m .ok) _ _ e))
+      (sym (ap (λ (x : List ℕ). fillBy x ts m) (drop-cons l k 0 h) ∙ cond-false (eqb (getD l k 0) 0 || not (m .ok)) _ _ g))
 
 place-cond : (t : Bool) (x y : Match) (n : ℕ) → x .place ≤ n → y .place ≤ n → cond t x y .place ≤ n
 place-cond true x y n p q = p
 place-cond false x y n p q = q
 
-kept-place : (m : Match) (s k : ℕ) → keptBy m s k .place ≤ m .place
+same-place : (t : Bool) (x y : Match) (n : ℕ) → x .place ≡ n → y .place ≡ n → cond t x y .place ≡ n
+same-place true x y n p q = p
+same-place false x y n p q = q
+
+pub kept-place : (m : Match) (s k : ℕ) → keptBy m s k .place ≡ m .place
 unfolding keptBy
-kept-place m s k =
-    place-cond (eqb s 1 || eqb s 2) _ _ _ (omega arith)
-    (place-cond (eqb s 3) _ _ _ (omega arith) (place-cond (eqb s 7) _ _ _ (omega arith) (place-cond (eqb s 8) _ _ _ (omega arith) (omega arith))))
+kept-place m s k = same-place (eqb s 1 || eqb s 2) _ _ _ refl (same-place (eqb s 3) _ _ _ refl (same-place (eqb s 7) _ _ _ refl (same-place (eqb s 8) _ _ _ refl refl)))
 
 pub slot-place : (m : Match) (s : ℕ) (t u : Token) {n : Match} → n ≡ slotBy m s t u → n .place ≤ m .place + 2
 unfolding slotBy valueBy wordBy
 slot-place m s t u f =
-    rw f
-    (place-cond (eqb s 0) _ _ _ (omega arith)
-    (place-cond ((eqb s 4 || eqb s 5) || eqb s 6) _ _ _ (omega (arith, found-used s t u)) (omega (arith, kept-place m s (t .key)))))
+    rw f (place-cond ((eqb s 4 || eqb s 5) || eqb s 6) _ _ _ (omega (arith, found-used s t u)) (omega (arith, kept-place m s (t .key))))
 
 -- Six slots to a form, and none is left behind them.
 each-at : (P : List ℕ → Bool) (ls : List (List ℕ)) → T (allOf P ls) → (i : ℕ) → i < length ls → T (P (getD ls i []))

@@ -10,7 +10,7 @@ use native.Mathlib.Omega.{arith}
 use borrow.Author.Tests.{lt-ltb, ltb-true, ltb-false}
 use lib.Dec.{T, leb, ltb, leb→le}
 use lib.IntN.{ℤ, pos, negℤ}
-use lib.ListN.{length, drop, getD, set, replicate, length-append, length-map, drop-of-length-le}
+use lib.ListN.{length, drop, getD, set, replicate, length-append, length-map}
 use lib.Seq.{set-at, append-snoc}
 use Rattle.numbers.specs.Tests.{allOf, eqList}
 use Rattle.numbers.specs.Bytes.{ascii}
@@ -21,7 +21,7 @@ use Rattle.program.specs.Statements.{Literal, Variable}
 use Rattle.text.specs.Tokens as Paper
 use Rattle.text.specs.Forms as Form
 use Rattle.text.specs.Forms.{Line, digits, decimal, took, literal, variable, operand, variableName, operatorMeant, comparisonMeant, Parts, noParts, forms, naming, writing, onLeft, operating, comparing, onRight, starting, Slot, Is, New, Target, Written, Left, Right, Start, Operating, Comparing, put, word, sign, takes, fill, byForm}
-use Rattle.text.specs.Code.{pack, noToken, noTokens, tokenAt, pushed, pushedAll, packed}
+use Rattle.text.specs.Code.{pack, noToken, noTokens, tokensWith, tokenAt, pushed, pushedAll, packed}
 use Rattle.text.specs.declared.tokens.Token.{Token}
 use Rattle.text.specs.declared.tokens.Tokens.{Tokens}
 use Rattle.text.proofs.Filled.{goOn, HoldsAt}
@@ -29,19 +29,19 @@ use Rattle.forms.proofs.Filling.{front}
 
 -- So many tokens, and none behind them.
 holding : List Paper.Token → Tokens
-holding us = record { at = map pack us ++ replicate (9 - length us) noToken; count = length us }
+holding us = tokensWith (map pack us ++ replicate (12 - length us) noToken) (length us)
 
 push-more : (us : List Paper.Token) (u : Paper.Token) → length us < 9 → pushed (holding us) (pack u) ≡ holding (us ++ (u ∷ []))
 unfolding pushed holding
 push-more us u h =
     let n : length (us ++ (u ∷ [])) ≡ suc (length us) = length-append us (u ∷ []) ∙ add-one (length us) in
-    let k : 9 - length us ≡ suc (9 - suc (length us)) = omega arith in
+    let k : 12 - length us ≡ suc (12 - suc (length us)) = omega arith in
     rw (lt-ltb (length us) 9 h, n)
-    (ap (λ (xs : List Token). record { at = xs; count = suc (length us) })
+    (ap (λ (xs : List Token). tokensWith xs (suc (length us)))
     (ap (λ (j : ℕ). set (map pack us ++ replicate j noToken) (length us) (pack u)) k
-    ∙ set-at (map pack us) noToken (replicate (9 - suc (length us)) noToken) (pack u) (length us) (length-map us pack)
-    ∙ sym (append-snoc (map pack us) (pack u) (replicate (9 - suc (length us)) noToken))
-    ∙ ap (λ (xs : List Token). xs ++ replicate (9 - suc (length us)) noToken) (sym (map-append pack us (u ∷ [])))))
+    ∙ set-at (map pack us) noToken (replicate (12 - suc (length us)) noToken) (pack u) (length us) (length-map us pack)
+    ∙ sym (append-snoc (map pack us) (pack u) (replicate (12 - suc (length us)) noToken))
+    ∙ ap (λ (xs : List Token). xs ++ replicate (12 - suc (length us)) noToken) (sym (map-append pack us (u ∷ [])))))
 
 push-all : (vs us : List Paper.Token) → length us + length vs ≤ 9 → pushedAll (holding us) vs ≡ holding (us ++ vs)
 unfolding pushedAll
@@ -72,18 +72,14 @@ padded (u ∷ us) k (suc i) = padded us k i
 
 pub few-read : (us : List Paper.Token) → length us ≤ 9 → (i : ℕ) → tokenAt (packed us .at) i ≡ front (drop i us)
 unfolding tokenAt holding
-few-read us h i = ap (λ (ts : Tokens). tokenAt (ts .at) i) (few us h) ∙ pick (ltb i 9) refl
-  where
-    pick : (b : Bool) → ltb i 9 ≡ b → tokenAt (holding us .at) i ≡ front (drop i us)
-    pick true e = rw e (padded us (9 - length us) i)
-    pick false e = rw e (ap front (sym (drop-of-length-le us {i = i} (omega (arith, ltb-false i 9 e)))))
+few-read us h i = ap (λ (ts : Tokens). tokenAt (ts .at) i) (few us h) ∙ padded us (12 - length us) i
 
 -- Nine of more.
 push-count : (ts : Tokens) (t : Token) → ts .count ≤ 9 → pushed ts t .count ≡ min 9 (ts .count + 1)
 unfolding pushed
 push-count ts t h = pick (ltb (ts .count) 9) refl
   where
-    pick : (b : Bool) → ltb (ts .count) 9 ≡ b → cond b (record { at = set (ts .at) (ts .count) t; count = suc (ts .count) }) ts .count ≡ min 9 (ts .count + 1)
+    pick : (b : Bool) → ltb (ts .count) 9 ≡ b → cond b (tokensWith (set (ts .at) (ts .count) t) (suc (ts .count))) ts .count ≡ min 9 (ts .count + 1)
     pick true e = omega (arith, ltb-true (ts .count) 9 e)
     pick false e = omega (arith, ltb-false (ts .count) 9 e)
 

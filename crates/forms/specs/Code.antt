@@ -3,7 +3,7 @@
 use mathlib.Core.Bool.{Bool, true, false, cond, _&&_, _||_, not}
 use mathlib.Core.List.{List, [], _∷_}
 use Prim.Native.Nat.{ℕ, _+_}
-use lib.Dec.{eqb}
+use lib.Dec.{eqb, ltb}
 use lib.ListN.{getD}
 use lib.IntN.{ℤ, pos, negℤ}
 use Rattle.program.specs.Names.{Name, twoCharacters, userName}
@@ -126,21 +126,19 @@ valueBy m slot x =
     match (m .ok && not (eqb (x .used) 0)) (m .place + x .used) (m .name) (m .written)
     (cond (eqb slot 4) (x .value) (m .left)) (m .operator) (m .comparison) (cond (eqb slot 5) (x .value) (m .right)) (cond (eqb slot 6) (x .value) (m .start))
 
--- A slot, with the next two tokens; slot 0 takes nothing.
+-- A slot, with the next two tokens.
 unfoldable pub slotBy : Match → ℕ → Token → Token → Match
-slotBy m slot t u =
-    cond (eqb slot 0) m
-    (cond ((eqb slot 4 || eqb slot 5) || eqb slot 6) (valueBy m slot (foundBy slot t u)) (wordBy m slot (t .key)))
+slotBy m slot t u = cond ((eqb slot 4 || eqb slot 5) || eqb slot 6) (valueBy m slot (foundBy slot t u)) (wordBy m slot (t .key))
 
--- The slots of a form one after the other, until one takes nothing.
+-- The slots of a form one after the other, until there are no more or one takes nothing.
 unfoldable pub fillBy : List ℕ → List Token → Match → Match
 fillBy [] ts m = m
 fillBy (s ∷ ss) ts m =
     let more = fillBy ss ts (slotBy m s (tokenAt ts (m .place)) (tokenAt ts (m .place + 1))) in
-    cond (m .ok) more m
+    cond (eqb s 0 || not (m .ok)) m more
 
 -- The slots of the 21 forms, six to a form: 1 a name to declare, 2 a label, 3 a variable to write, 4 and 5 the operands, 6 a literal,
--- 7 an operator, 8 a comparison, 0 none; any other is the key of fixed characters.
+-- 7 an operator, 8 a comparison, 0 no more; any other is the key of fixed characters.
 unfoldable pub slotTable : List (List ℕ)
 slotTable =
     (16972 ∷ 1 ∷ 0 ∷ 0 ∷ 0 ∷ 0 ∷ [])
@@ -168,6 +166,22 @@ slotTable =
 
 unfoldable pub slotsOf : ℕ → List ℕ
 slotsOf form = getD slotTable form []
+
+-- The first form of a line by the key of its first token, that of an assignment where this is no mnemonic; and the one form that the tokens
+-- may fill, which is the next one where they are too many for it, or where `0` follows OE.
+unfoldable pub firstForm : ℕ → ℕ
+firstForm first =
+    cond (eqb first 16972) 0 (cond (eqb first 16726) 1 (cond (eqb first 17225) 5 (cond (eqb first 17220) 6 (cond (eqb first 21058) 7
+    (cond (eqb first 19523) 9 (cond (eqb first 21586) 11 (cond (eqb first 69) 12 (cond (eqb first 72) 13 (cond (eqb first 17743) 15
+    (cond (eqb first 16717) 17 (cond (eqb first 21069) 18 (cond (eqb first 19539) 19 (cond (eqb first 21072) 20 3)))))))))))))
+
+abbrev pub longerBy : ℕ → ℕ → ℕ → Bool
+longerBy form second count =
+    (((((eqb form 1 || eqb form 7) || eqb form 9) && ltb 2 count) || (eqb form 3 && ltb 4 count)) || (eqb form 13 && ltb 1 count))
+    || (eqb form 15 && eqb second 48)
+
+unfoldable pub formFor : ℕ → ℕ → ℕ → ℕ
+formFor first second count = let form = firstForm first in cond (longerBy form second count) (form + 1) form
 
 -- The parts that a match took, as the paper has them.
 abbrev pub partsOf : Match → Parts

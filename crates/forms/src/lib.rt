@@ -7,12 +7,11 @@ use text::tokens::Tokens;
 ghost use mathlib.Core.Path.{_≡_};
 ghost use mathlib.Core.Bool.{cond};
 ghost use Prim.Native.Nat.{_<_};
-ghost use lib.ListN.{getD};
 ghost use Rattle.program.specs.Cells.{operatorNumber, comparisonNumber};
 ghost use Rattle.program.specs.Code.{nameOf};
 ghost use Rattle.text.specs.Forms.{variableName};
 ghost use Rattle.text.specs.Code.{isOperator, isComparison};
-ghost use Rattle.forms.specs.Code.{noMatch, literalBy, variableBy, operandBy, foundBy, operatorBy, comparisonBy, fitsBy, wordBy, valueBy, slotBy, fillBy, slotsOf};
+ghost use Rattle.forms.specs.Code.{noMatch, literalBy, variableBy, operandBy, foundBy, operatorBy, comparisonBy, fitsBy, wordBy, valueBy, slotBy, fillBy, slotsOf, firstForm, longerBy, formFor};
 
 // How many values a character of a key has.
 const BYTE: u16 = 256;
@@ -72,10 +71,8 @@ const ZERO: u16 = b'0' as u16;
 
 const MINUS: u16 = b'-' as u16;
 
-// How many slots a form has at most, and how many forms there are.
+// How many slots a form has at most.
 const SLOTS: usize = 6;
-
-pub const COUNT: usize = 21;
 
 // The slots of the forms.
 const FORMS: [[u16; 6]; 21] = [
@@ -135,7 +132,10 @@ pub struct Match {
 fn is_variable(key: u16) -> bool
     ensures { λ r. ⌜ r ≡ variableName (nameOf key) ⌝ }
 {
-    (Variable::number_of(key) != 0) | names::is_user_name(key)
+    if Variable::number_of(key) != 0 {
+        return true;
+    }
+    names::is_user_name(key)
 }
 
 // The sign of an operator; of a comparison.
@@ -289,9 +289,6 @@ impl Match {
         requires { ⌜ self .place < 64 ⌝ }
         ensures { λ r. ⌜ r ≡ slotBy self slot t u ⌝ }
     {
-        if slot == NOTHING {
-            return self;
-        }
         if (slot == LEFT) | (slot == RIGHT) | (slot == START) {
             return self.value(slot, found(slot, t, u));
         }
@@ -341,12 +338,82 @@ fn chosen(first: bool, x: Value, y: Value) -> Value
     y
 }
 
-// The slot of a form at a place.
-fn slot_at(form: usize, at: usize) -> u16
-    requires { ⌜ (form < 21) × (at < 6) ⌝ }
-    ensures { λ r. ⌜ r ≡ getD (slotsOf form) at 0 ⌝ }
+// The slots of a form.
+fn slots(form: usize) -> [u16; 6]
+    requires { ⌜ form < 21 ⌝ }
+    ensures { λ r. ⌜ r ≡ slotsOf form ⌝ }
 {
-    FORMS[form][at]
+    FORMS[form]
+}
+
+// The first form of a line whose first token has this key; that of an assignment where it is no mnemonic.
+fn first_form(first: u16) -> usize
+    ensures { λ r. ⌜ r ≡ firstForm first ⌝ }
+{
+    if first == LB {
+        return 0;
+    }
+    if first == VA {
+        return 1;
+    }
+    if first == IC {
+        return 5;
+    }
+    if first == DC {
+        return 6;
+    }
+    if first == BR {
+        return 7;
+    }
+    if first == CL {
+        return 9;
+    }
+    if first == RT {
+        return 11;
+    }
+    if first == E {
+        return 12;
+    }
+    if first == H {
+        return 13;
+    }
+    if first == OE {
+        return 15;
+    }
+    if first == MA {
+        return 17;
+    }
+    if first == MR {
+        return 18;
+    }
+    if first == SL {
+        return 19;
+    }
+    if first == PR {
+        return 20;
+    }
+    3
+}
+
+// So many tokens, with this key of the second, are for the form behind this one.
+fn is_longer(form: usize, second: u16, count: usize) -> bool
+    ensures { λ r. ⌜ r ≡ longerBy form second count ⌝ }
+{
+    (((form == 1) | (form == 7) | (form == 9)) & (2 < count))
+        | ((form == 3) & (4 < count))
+        | ((form == 13) & (1 < count))
+        | ((form == 15) & (second == ZERO))
+}
+
+// The one form that so many tokens may fill, by the keys of the first two.
+pub fn form_for(first: u16, second: u16, count: usize) -> usize
+    ensures { λ r. ⌜ r ≡ formFor first second count ⌝ }
+{
+    let form = first_form(first);
+    if is_longer(form, second, count) {
+        return form + 1;
+    }
+    form
 }
 
 // What the slots of a form take of the tokens.
@@ -354,14 +421,17 @@ pub fn fill(form: usize, ts: Tokens) -> Match
     requires { ⌜ form < 21 ⌝ }
     ensures { λ r. ⌜ r ≡ fillBy (slotsOf form) (ts .at) noMatch ⌝ }
 {
+    let slots = slots(form);
+    let at = ts.at;
     let mut m = Match::none();
     let mut k: usize = 0;
     while k < SLOTS {
-        if !m.ok {
+        let slot = slots[k];
+        if (slot == NOTHING) | !m.ok {
             return m;
         }
         let place = m.place;
-        m = m.slot(slot_at(form, k), ts.token(place), ts.token(place + 1));
+        m = m.slot(slot, at[place], at[place + 1]);
         k += 1;
     }
     m

@@ -2,23 +2,26 @@
 -- Assumes nothing.
 use mathlib.Core.Path.{_≡_, refl, sym, ap, _∙_}
 use mathlib.Core.Bool.{Bool, true, false, cond, _&&_, not}
-use mathlib.Core.List.{[], _∷_}
-use Prim.Native.Nat.{ℕ, suc, _+_, _-_, _≤_, _<_}
-use native.Mathlib.Numerals.{add-one}
+use mathlib.Core.List.{[]}
+use Prim.Native.Nat.{ℕ, zero, suc, _+_, _≤_, _<_}
 use native.Mathlib.Omega.{arith}
 use borrow.Author.Tests.{eqb-true}
 use lib.Dec.{eqb}
 use Rattle.numbers.specs.Bytes.{number, ascii}
 use Rattle.numbers.specs.Tests.{eqList, numbered}
+use Rattle.numbers.proofs.Truth.{is-true, is-no, if-same}
 use Rattle.program.specs.Names.{reserved, mnemonics, variableNames, paperVariable}
 use Rattle.program.specs.Code.{key, nameOf}
 use Rattle.program.proofs.Keys.{key-name}
 use Rattle.text.specs.Forms.{Parts}
-use Rattle.text.specs.Code.{spelt}
-use Rattle.forms.specs.Code.{noMatch, fillBy, slotsOf, partsOf}
+use Rattle.text.specs.Code.{tokenAt, spelt}
+use Rattle.forms.specs.Code.{noMatch, fillBy, slotsOf, formFor, partsOf}
 use Rattle.reading.specs.Code.{sayOf, anyBig, sayBy, partsBy, readParts, faulty, formBy, formNumbers}
 use Rattle.text.specs.declared.tokens.Tokens.{Tokens}
 use Rattle.forms.specs.declared.Match.{Match}
+use Rattle.reading.specs.declared.Reading.{Reading}
+use Rattle.forms.proofs.Filling.{cond-no}
+use Rattle.forms.proofs.Choosing.{form-below, only-form}
 
 -- The name of a key.
 pub key-spelt : (k : ℕ) → key (spelt k) ≡ k
@@ -55,20 +58,48 @@ module _ (form : ℕ) (p : Parts) where
   unfolding readParts partsBy
   read-says e f = rw (e, f)
 
--- One form after the other.
-module _ (ts : Tokens) (f : ℕ) {m : Match} (h : f < 21) (p : m ≡ fillBy (slotsOf f) (ts .at) noMatch) where
-  rest-is : formNumbers (21 - f) f ≡ f ∷ formNumbers (21 - (f + 1)) (f + 1)
-  unfolding formNumbers
-  rest-is = let e : 21 - f ≡ suc (21 - (f + 1)) = omega arith in rw e (ap (λ (k : ℕ). f ∷ formNumbers (21 - (f + 1)) k) (sym (add-one f)))
+-- One form after the other: none but the one that is chosen can be filled, so that it decides.
+module _ (ts : Tokens) where
+  abbrev chosen : ℕ
+  chosen = formFor (tokenAt (ts .at) 0 .key) (tokenAt (ts .at) 1 .key) (ts .count)
 
-  pub form-fits : (m .ok && eqb (m .place) (ts .count)) ≡ true → readParts f (partsOf m) ≡ formBy (formNumbers (21 - f) f) ts
-  unfolding formBy
-  form-fits e = rw (rest-is, ← p, e)
+  abbrev filled : ℕ → Match
+  filled f = fillBy (slotsOf f) (ts .at) noMatch
 
-  pub form-not : (m .ok && eqb (m .place) (ts .count)) ≡ false → formBy (formNumbers (21 - (f + 1)) (f + 1)) ts ≡ formBy (formNumbers (21 - f) f) ts
-  unfolding formBy
-  form-not e = rw (rest-is, ← p, e)
+  abbrev fits : ℕ → Bool
+  fits f = filled f .ok && eqb (filled f .place) (ts .count)
 
-pub form-none : (ts : Tokens) (f : ℕ) → 21 ≤ f → faulty 3 ≡ formBy (formNumbers (21 - f) f) ts
-unfolding formBy formNumbers
-form-none ts f h = let e : 21 - f ≡ 0 = omega arith in rw e
+  abbrev by : ℕ → Reading
+  by f = cond (fits f) (readParts f (partsOf (filled f))) (faulty 3)
+
+  passed : (n k : ℕ) → n + k ≡ 21 → chosen < n → formBy (formNumbers k n) ts ≡ faulty 3
+  unfolding formBy formNumbers
+  passed n zero e h = refl
+  passed n (suc k) e h = pick (fits n) refl (passed (suc n) k (omega arith) (omega arith))
+    where
+      pick : (b : Bool) → fits n ≡ b → formBy (formNumbers k (suc n)) ts ≡ faulty 3
+          → cond (fits n) (readParts n (partsOf (filled n))) (formBy (formNumbers k (suc n)) ts) ≡ faulty 3
+      pick true f more = absurd (omega (arith, only-form ts n (omega arith) f))
+      pick false f more = rw f more
+
+  reached : (n k : ℕ) → n + k ≡ 21 → n ≤ chosen → formBy (formNumbers k n) ts ≡ by chosen
+  unfolding formBy formNumbers
+  reached n zero e h = absurd (omega (arith, form-below (tokenAt (ts .at) 0 .key) (tokenAt (ts .at) 1 .key) (ts .count)))
+  reached n (suc k) e h =
+      if-same chosen n
+      (λ g. ap (λ (r : Reading). cond (fits n) (readParts n (partsOf (filled n))) r) (passed (suc n) k (omega arith) (omega arith)) ∙ ap by (sym g))
+      (λ g. cond-no (fits n) _ _ (other g) ∙ reached (suc n) k (omega arith) (omega (arith, g)))
+    where
+      other : (chosen ≡ n → ⊥) → fits n ≡ false
+      other g = is-no (fits n) (λ t. g (only-form ts n (omega arith) (is-true (fits n) t)))
+
+  form-law : formBy (formNumbers 21 0) ts ≡ by chosen
+  form-law = reached 0 21 refl (omega arith)
+
+  pub form-fits : {f : ℕ} {m : Match} → f ≡ chosen → m ≡ filled f → (m .ok && eqb (m .place) (ts .count)) ≡ true
+      → readParts f (partsOf m) ≡ formBy (formNumbers 21 0) ts
+  form-fits p q e = rw (form-law, ← p, ← q, e)
+
+  pub form-not : {f : ℕ} {m : Match} → f ≡ chosen → m ≡ filled f → (m .ok && eqb (m .place) (ts .count)) ≡ false
+      → faulty 3 ≡ formBy (formNumbers 21 0) ts
+  form-not p q e = rw (form-law, ← p, ← q, e)

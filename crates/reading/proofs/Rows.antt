@@ -23,7 +23,7 @@ use Rattle.forms.specs.Code.{slotTable, slotsOf}
 use Rattle.reading.specs.Code.{formNumbers, smallOf, operandOf, cellBy, selectorBy, leftBy, rightBy, targetBy, sayTable, sayOf, sayBy, anyBig, partsBy, readParts, readingWith, faulty, noCell, saidBy}
 use Rattle.reading.specs.declared.Reading.{Reading}
 use Rattle.text.proofs.Filled.{Filled, done, step, nothing, declared, aimed, wrote, onTheLeft, onTheRight, started, operated, compares, Sound}
-use Rattle.forms.proofs.Filling.{new, target, written, left, right, start, operator, comparison, fixed, Slots, end, skip, slot, cond-yes, cond-no}
+use Rattle.forms.proofs.Filling.{new, target, written, left, right, start, operator, comparison, fixed, Slots, end, rest, slot, cond-yes, cond-no}
 
 -- What a line that fills a form gives to read: a literal that is too big comes first, then a reserved name.
 unfoldable pub lineReading : Line → Reading
@@ -272,25 +272,25 @@ sound-PR (step nothing (step (onTheLeft d) done)) = record { aims = tt; sets = t
 pub rows : Rows (formNumbers 21 0) forms
 unfolding formNumbers forms slotsOf slotTable ascii nameOf
 rows =
-    (next (record { slots = slot (fixed 16972 tt) (slot new (skip (skip (skip (skip end))))); says = says-LB; sound = sound-LB })
-    (next (record { slots = slot (fixed 16726 tt) (slot new (skip (skip (skip (skip end))))); says = says-VA; sound = sound-VA })
-    (next (record { slots = slot (fixed 16726 tt) (slot new (slot (fixed 61 tt) (slot start (skip (skip end))))); says = says-VA-start; sound = sound-VA-start })
-    (next (record { slots = slot written (slot (fixed 61 tt) (slot left (skip (skip (skip end))))); says = says-set; sound = sound-set })
-    (next (record { slots = slot written (slot (fixed 61 tt) (slot left (slot operator (slot right (skip end))))); says = says-set-with; sound = sound-set-with })
-    (next (record { slots = slot (fixed 17225 tt) (slot written (skip (skip (skip (skip end))))); says = says-IC; sound = sound-IC })
-    (next (record { slots = slot (fixed 17220 tt) (slot written (skip (skip (skip (skip end))))); says = says-DC; sound = sound-DC })
-    (next (record { slots = slot (fixed 21058 tt) (slot target (skip (skip (skip (skip end))))); says = says-BR; sound = sound-BR })
+    (next (record { slots = slot (fixed 16972 tt) (slot new rest); says = says-LB; sound = sound-LB })
+    (next (record { slots = slot (fixed 16726 tt) (slot new rest); says = says-VA; sound = sound-VA })
+    (next (record { slots = slot (fixed 16726 tt) (slot new (slot (fixed 61 tt) (slot start rest))); says = says-VA-start; sound = sound-VA-start })
+    (next (record { slots = slot written (slot (fixed 61 tt) (slot left rest)); says = says-set; sound = sound-set })
+    (next (record { slots = slot written (slot (fixed 61 tt) (slot left (slot operator (slot right rest)))); says = says-set-with; sound = sound-set-with })
+    (next (record { slots = slot (fixed 17225 tt) (slot written rest); says = says-IC; sound = sound-IC })
+    (next (record { slots = slot (fixed 17220 tt) (slot written rest); says = says-DC; sound = sound-DC })
+    (next (record { slots = slot (fixed 21058 tt) (slot target rest); says = says-BR; sound = sound-BR })
     (next (record { slots = slot (fixed 21058 tt) (slot target (slot (fixed 44 tt) (slot left (slot comparison (slot right end))))); says = says-BR-if; sound = sound-BR-if })
-    (next (record { slots = slot (fixed 19523 tt) (slot target (skip (skip (skip (skip end))))); says = says-CL; sound = sound-CL })
+    (next (record { slots = slot (fixed 19523 tt) (slot target rest); says = says-CL; sound = sound-CL })
     (next (record { slots = slot (fixed 19523 tt) (slot target (slot (fixed 44 tt) (slot left (slot comparison (slot right end))))); says = says-CL-if; sound = sound-CL-if })
-    (next (record { slots = slot (fixed 21586 tt) (skip (skip (skip (skip (skip end))))); says = says-RT; sound = sound-RT })
-    (next (record { slots = slot (fixed 69 tt) (skip (skip (skip (skip (skip end))))); says = says-E; sound = sound-E })
-    (next (record { slots = slot (fixed 72 tt) (skip (skip (skip (skip (skip end))))); says = says-H; sound = sound-H })
-    (next (record { slots = slot (fixed 72 tt) (slot left (skip (skip (skip (skip end))))); says = says-hold; sound = sound-hold })
-    (next (record { slots = slot (fixed 17743 tt) (slot target (skip (skip (skip (skip end))))); says = says-OE; sound = sound-OE })
-    (next (record { slots = slot (fixed 17743 tt) (slot (fixed 48 tt) (skip (skip (skip (skip end))))); says = says-disarm; sound = sound-disarm })
-    (next (record { slots = slot (fixed 16717 tt) (slot left (skip (skip (skip (skip end))))); says = says-MA; sound = sound-MA })
-    (next (record { slots = slot (fixed 21069 tt) (slot left (skip (skip (skip (skip end))))); says = says-MR; sound = sound-MR })
-    (next (record { slots = slot (fixed 19539 tt) (slot left (skip (skip (skip (skip end))))); says = says-SL; sound = sound-SL })
-    (next (record { slots = slot (fixed 21072 tt) (slot left (skip (skip (skip (skip end))))); says = says-PR; sound = sound-PR })
+    (next (record { slots = slot (fixed 21586 tt) rest; says = says-RT; sound = sound-RT })
+    (next (record { slots = slot (fixed 69 tt) rest; says = says-E; sound = sound-E })
+    (next (record { slots = slot (fixed 72 tt) rest; says = says-H; sound = sound-H })
+    (next (record { slots = slot (fixed 72 tt) (slot left rest); says = says-hold; sound = sound-hold })
+    (next (record { slots = slot (fixed 17743 tt) (slot target rest); says = says-OE; sound = sound-OE })
+    (next (record { slots = slot (fixed 17743 tt) (slot (fixed 48 tt) rest); says = says-disarm; sound = sound-disarm })
+    (next (record { slots = slot (fixed 16717 tt) (slot left rest); says = says-MA; sound = sound-MA })
+    (next (record { slots = slot (fixed 21069 tt) (slot left rest); says = says-MR; sound = sound-MR })
+    (next (record { slots = slot (fixed 19539 tt) (slot left rest); says = says-SL; sound = sound-SL })
+    (next (record { slots = slot (fixed 21072 tt) (slot left rest); says = says-PR; sound = sound-PR })
     last)))))))))))))))))))))

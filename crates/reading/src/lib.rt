@@ -136,17 +136,15 @@ fn read(parts: Match, form: usize) -> Reading
     say(parts, kind, say_at(form, 1), say_at(form, 2))
 }
 
-// What the tokens say by the first form that they fill.
+// What the tokens say by the one form that they may fill.
 fn by_form(ts: Tokens) -> Reading
     ensures { λ r. ⌜ r ≡ formBy (formNumbers 21 0) ts ⌝ }
 {
-    let mut form: usize = 0;
-    while form < forms::COUNT {
-        let m = forms::fill(form, ts);
-        if m.ok & (m.place == ts.count) {
-            return read(m, form);
-        }
-        form += 1;
+    let at = ts.at;
+    let form = forms::form_for(at[0].key, at[1].key, ts.count);
+    let m = forms::fill(form, ts);
+    if m.ok & (m.place == ts.count) {
+        return read(m, form);
     }
     Reading::faulty(Reading::BAD_FORM)
 }
@@ -158,7 +156,7 @@ fn statement(ts: Tokens) -> Reading
     if ts.count == 0 {
         return Reading::faulty(0);
     }
-    if ts.count == Tokens::ROOM {
+    if ts.count == Tokens::MOST {
         return Reading::faulty(Reading::BAD_FORM);
     }
     by_form(ts)

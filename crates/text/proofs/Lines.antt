@@ -7,7 +7,7 @@ use mathlib.Core.Logic.{⊎-elim, _⊎_, inl, inr}
 use Prim.Native.Nat.{ℕ, zero, suc, _+_, _-_, _<_, _≤_, zero-le, suc-le-suc}
 use native.Mathlib.Nat.{eq-or-lt-of-le, not-suc-le-zero, le-of-suc-le-suc, le-of-lt}
 use native.Mathlib.Omega.{arith}
-use borrow.Author.Tests.{eqb-true, leb-true, leb-false}
+use borrow.Author.Tests.{eqb-true, ne-eqb, leb-true, leb-false}
 use lib.Dec.{eqb, leb}
 use lib.ListN.{length, take, drop, getD, length-drop, drop-of-length-le, take-append-drop}
 use lib.Seq.{drop-cons, drop-drop, getD-drop, take-all, length-take-le}
@@ -22,6 +22,13 @@ unfolding atEnd
 at-end s at b c p q =
     let e : getD (drop at s) 0 0 ≡ getD s at 0 = getD-drop at s 0 0 ∙ ap (λ (k : ℕ). getD s k 0) (omega arith) in
     rw (p, q, e, getD-drop at s 1 0)
+
+-- A byte above CR ends no line.
+pub not-at-end : (s : List ℕ) (at : ℕ) → 13 < getD s at 0 → false ≡ atEnd (drop at s)
+not-at-end s at h =
+    let b = getD s at 0 in
+    let e : (eqb b 10 || (eqb b 13 && eqb (getD s (at + 1) 0) 10)) ≡ false = rw (ne-eqb b 10 (λ e. omega arith), ne-eqb b 13 (λ e. omega arith)) in
+    sym e ∙ at-end s at b (getD s (at + 1) 0) refl refl
 
 -- One byte more of the line; its end; the text's end.
 pub length-more : (s : List ℕ) (i : ℕ) → i < length s → atEnd (drop i s) ≡ false → lineLength (drop i s) ≡ suc (lineLength (drop (suc i) s))

@@ -1,21 +1,22 @@
 -- Laws of the reading of tokens, character by character.
 -- Assumes nothing.
 use mathlib.Core.Path.{_≡_, refl, sym, ap, ap₂, _∙_}
-use mathlib.Core.Bool.{Bool, true, false, cond, _&&_, and-eq-true-iff}
+use mathlib.Core.Bool.{Bool, true, false, cond, _&&_, and-true, and-eq-true-iff}
 use mathlib.Core.List.{List, [], _∷_}
 use Prim.Native.Nat.{ℕ, zero, suc, _+_, _^_, _≤_, _<_}
 use native.Mathlib.Nat.{pow-suc, pow-le-pow-right, zero-lt-suc, not-suc-le-zero, le-of-suc-le-suc}
 use native.Mathlib.Numerals.{add-one}
 use native.Mathlib.Omega.{arith}
-use borrow.Author.Tests.{eq-eqb, ne-eqb, ltb-true, leb-true}
+use borrow.Author.Tests.{eq-eqb, ne-eqb, lt-ltb, le-ltb, ltb-true, leb-true}
 use lib.Dec.{eqb, leb, ltb}
-use lib.ListN.{length, take, drop, getD, drop-of-length-le}
+use lib.ListN.{length, take, drop, getD, set, drop-of-length-le}
 use lib.Seq.{drop-cons, getD-drop}
 use Rattle.numbers.specs.Tests.{allOf}
 use Rattle.program.specs.Names.{digit}
 use Rattle.text.specs.Tokens.{printable, uncommented}
-use Rattle.text.specs.Code.{Room, moreDigits, valueWith, word, keyWith, grown, tokenOf, ends, noWord, noTokens, pushed, scan}
+use Rattle.text.specs.Code.{Room, moreDigits, valueWith, word, keyWith, grown, tokenOf, ends, noWord, noTokens, tokensWith, pushed, scan}
 use Rattle.text.specs.declared.tokens.Word.{Word}
+use Rattle.text.specs.declared.tokens.Token.{Token}
 use Rattle.text.specs.declared.tokens.Tokens.{Tokens}
 
 -- What stands at a place of a list does not hang on what stands past its end.
@@ -92,31 +93,48 @@ module _ (l : List ℕ) (ts : Tokens) (w : Word) (i : ℕ) where
       let f : ends (getD l i 0) (getD l (suc i) 32) ≡ false = ap₂ ends (sym p) (ap (λ (k : ℕ). getD l k 32) (sym (add-one i)) ∙ sym q) ∙ e in
       rw (drop-cons l i 0 h, next-is, f, add-one) (rw (r, p))
 
-  pub scan-ends : {c next : ℕ} {v : Word} {us : Tokens} → i < length l → c ≡ getD l i 0 → next ≡ getD l (i + 1) 32 → v ≡ grown w c → ends c next ≡ true
-      → us ≡ pushed ts (tokenOf v next) → scan us noWord (drop (i + 1) l) ≡ scan ts w (drop i l)
+  pub scan-ends : {c next : ℕ} {v x : Word} {us : Tokens} → i < length l → c ≡ getD l i 0 → next ≡ getD l (i + 1) 32 → v ≡ grown w c → ends c next ≡ true
+      → us ≡ pushed ts (tokenOf v next) → x ≡ noWord → scan us x (drop (i + 1) l) ≡ scan ts w (drop i l)
   unfolding scan
-  scan-ends {c} {next} {v} h p q r e u =
+  scan-ends {c} {next} {v} h p q r e u f =
       let n : next ≡ getD l (suc i) 32 = q ∙ ap (λ (k : ℕ). getD l k 32) (add-one i) in
-      let f : ends (getD l i 0) (getD l (suc i) 32) ≡ true = ap₂ ends (sym p) (sym n) ∙ e in
-      rw (drop-cons l i 0 h, next-is, f, add-one) (rw (u, r, p, n))
+      let t : ends (getD l i 0) (getD l (suc i) 32) ≡ true = ap₂ ends (sym p) (sym n) ∙ e in
+      rw (drop-cons l i 0 h, next-is, t, add-one) (rw (f, u, r, p, n))
 
   pub scan-end : length l ≤ i → scan ts w (drop i l) ≡ ts
   unfolding scan
   scan-end h = rw (drop-of-length-le l h)
 
+-- One token more where there is room; where there is none, nothing that follows is kept.
+pub push-is : (ts : Tokens) {t u : Token} → ts .count < 9 → u ≡ t → tokensWith (set (ts .at) (ts .count) u) (ts .count + 1) ≡ pushed ts t
+unfolding pushed
+push-is ts h e = rw (lt-ltb (ts .count) 9 h, e, add-one)
+
+push-none : (ts : Tokens) (t : Token) → 9 ≤ ts .count → pushed ts t ≡ ts
+unfolding pushed
+push-none ts t h = rw (le-ltb (ts .count) 9 h)
+
+pub scan-full : (ts : Tokens) (w : Word) (l : List ℕ) → 9 ≤ ts .count → scan ts w l ≡ ts
+unfolding scan
+scan-full ts w [] h = refl
+scan-full ts w (c ∷ cs) h =
+    pick (ends c (getD cs 0 32)) (ap (λ (us : Tokens). scan us noWord cs) (push-none ts _ h) ∙ scan-full ts noWord cs h) (scan-full ts (grown w c) cs h)
+  where
+    pick : (b : Bool) {x y : Tokens} → x ≡ ts → y ≡ ts → cond b x y ≡ ts
+    pick true p q = p
+    pick false p q = q
+
 -- The bytes that a line may hold, one after the other.
 module _ (l : List ℕ) (i : ℕ) where
-  pub printable-more : i < length l → printable (getD l i 0) ≡ true → allOf printable (drop (i + 1) l) ≡ allOf printable (drop i l)
+  pub printable-more : (all : Bool) {r : Bool} → i < length l → r ≡ printable (getD l i 0)
+      → ((all && r) && allOf printable (drop (i + 1) l)) ≡ (all && allOf printable (drop i l))
   unfolding allOf
-  printable-more h e = rw (add-one i, drop-cons l i 0 h, e)
+  printable-more true h e = rw (add-one i, drop-cons l i 0 h, e)
+  printable-more false h e = refl
 
-  pub printable-stop : i < length l → printable (getD l i 0) ≡ false → false ≡ allOf printable (drop i l)
+  pub printable-end : (all : Bool) → length l ≤ i → all ≡ (all && allOf printable (drop i l))
   unfolding allOf
-  printable-stop h e = rw (drop-cons l i 0 h, e)
-
-  pub printable-end : length l ≤ i → true ≡ allOf printable (drop i l)
-  unfolding allOf
-  printable-end h = rw (drop-of-length-le l h)
+  printable-end all h = rw (drop-of-length-le l h) (sym (and-true all))
 
   -- What stands before the comment, one byte after the other.
   pub code-more : i < length l → (getD l i 0 ≡ 39 → ⊥) → length (uncommented (drop i l)) ≡ suc (length (uncommented (drop (suc i) l)))

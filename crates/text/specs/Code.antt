@@ -59,16 +59,19 @@ pack t = token (shortKey (t .chars)) (digits t) (cond (digits t) (decimal 0 (t .
 abbrev pub noToken : Token
 noToken = token 0 false 0 false
 
--- The token at a place; none past the ninth.
+-- The token at a place; none past the last.
 unfoldable pub tokenAt : List Token → ℕ → Token
-tokenAt ts i = cond (ltb i 9) (getD ts i noToken) noToken
+tokenAt ts i = getD ts i noToken
 
--- The first nine tokens: one more behind them; none; and all of a list.
+-- The first nine tokens, with places for three more: one more behind them; none; and all of a list.
+abbrev pub tokensWith : List Token → ℕ → Tokens
+tokensWith at count = record { at = at; count = count }
+
 unfoldable pub pushed : Tokens → Token → Tokens
-pushed ts t = cond (ltb (ts .count) 9) (record { at = set (ts .at) (ts .count) t; count = suc (ts .count) }) ts
+pushed ts t = cond (ltb (ts .count) 9) (tokensWith (set (ts .at) (ts .count) t) (suc (ts .count))) ts
 
 abbrev pub noTokens : Tokens
-noTokens = record { at = replicate 9 noToken; count = 0 }
+noTokens = tokensWith (replicate 12 noToken) 0
 
 unfoldable pub pushedAll : Tokens → List Paper.Token → Tokens
 pushedAll ts [] = ts

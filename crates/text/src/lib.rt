@@ -34,9 +34,11 @@ fn at_end(s: &[u8], at: usize) -> bool
     requires { ⌜ at < length (now s) ⌝ }
     ensures { λ r. ⌜ r ≡ atEnd (drop at (now (s .entry))) ⌝ }
 {
-    let b = byte(s, at);
-    let next = byte(s, at + 1);
-    (b == b'\n') | ((b == b'\r') & (next == b'\n'))
+    let b = s[at];
+    if b'\r' < b {
+        return false;
+    }
+    (b == b'\n') | ((b == b'\r') & (byte(s, at + 1) == b'\n'))
 }
 
 // Where the line that starts at `at` ends.

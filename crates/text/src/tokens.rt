@@ -7,7 +7,7 @@ ghost use lib.ListN.{length, getD};
 ghost use Rattle.numbers.specs.Tests.{allOf};
 ghost use Rattle.program.specs.Names.{wordCharacter};
 ghost use Rattle.text.specs.Tokens.{printable, uncommented, tokens, joins};
-ghost use Rattle.text.specs.Code.{noWord, Room, keyWith, valueWith, grown, tokenOf, ends, noToken, noTokens, tokenAt, pushed, packed};
+ghost use Rattle.text.specs.Code.{noWord, Room, keyWith, valueWith, grown, tokenOf, ends, noToken, noTokens, packed};
 
 // How many values a character of a key has.
 const BYTE: u16 = 256;
@@ -15,15 +15,15 @@ const BYTE: u16 = 256;
 // A token: its characters as a key, 0 where there are more than two; whether they are at most `MOST_DIGITS` digits, and the number that these write;
 // and whether another token follows it directly.
 pub struct Token {
+    pub value: u64,
     pub key: u16,
     pub digits: bool,
-    pub value: u64,
     pub glued: bool,
 }
 
-// The first tokens of a line; as many as there is room for are more than any statement has.
+// The first tokens of a line, at most `MOST`, which are more than any statement has; the places behind them hold none.
 pub struct Tokens {
-    pub at: [Token; 9],
+    pub at: [Token; 12],
     pub count: usize,
 }
 
@@ -36,39 +36,15 @@ pub struct Word {
 }
 
 impl Tokens {
-    pub const ROOM: usize = 9;
+    pub const MOST: usize = 9;
 
     fn none() -> Tokens
         ensures { λ r. ⌜ r ≡ noTokens ⌝ }
     {
         Tokens {
-            at: [Token::none(); 9],
+            at: [Token::none(); 12],
             count: 0,
         }
-    }
-
-    // The token at a place; none past the room.
-    pub fn token(self, i: usize) -> Token
-        ensures { λ r. ⌜ r ≡ tokenAt (self .at) i ⌝ }
-    {
-        let at = self.at;
-        if Self::ROOM <= i {
-            return Token::none();
-        }
-        at[i]
-    }
-
-    // One token more, where there is room.
-    fn pushed(self, token: Token) -> Tokens
-        ensures { λ r. ⌜ r ≡ pushed self token ⌝ }
-    {
-        let n = self.count;
-        let mut at = self.at;
-        if Self::ROOM <= n {
-            return self;
-        }
-        at[n] = token;
-        Tokens { at, count: n + 1 }
     }
 }
 
@@ -195,14 +171,13 @@ fn is_allowed(b: u8) -> bool
 pub fn is_printable(l: &[u8]) -> bool
     ensures { λ r. ⌜ r ≡ allOf printable (now (l .entry)) ⌝ }
 {
+    let mut all = true;
     let mut i: usize = 0;
     while i < l.len() {
-        if !is_allowed(l[i]) {
-            return false;
-        }
+        all = all & is_allowed(l[i]);
         i += 1;
     }
-    true
+    all
 }
 
 // How many bytes of a line stand before its comment.
@@ -232,7 +207,12 @@ pub fn read_tokens(l: &[u8]) -> Tokens
         let next = character(l, i);
         w = w.grown(c);
         if ends(c, next) {
-            ts = ts.pushed(w.token(next));
+            let n = ts.count;
+            if Tokens::MOST <= n {
+                return ts;
+            }
+            ts.at[n] = w.token(next);
+            ts.count = n + 1;
             w = Word::none();
         }
     }

@@ -2,15 +2,16 @@
 -- Assumes nothing.
 use borrow.Author.Needs.{needs}
 use denote.Ref.{now}
-use Rattle.text.proofs.Lines.{at-end}
+use mathlib.Core.Path.{refl}
+use Rattle.text.proofs.Lines.{at-end, not-at-end}
 use Rattle.text.proofs.at_end.Statement.{statement}
 use Rattle.text.proofs.at_end.Tie as tie
 
 returns : tie.Need-returns
-returns c =
-    let b = c .before in
-    let a = b .before .before .args in
-    at-end (now (a .s)) (a .at) (b .byte .result) (c .byte2 .result) (b .byte .ensures) (c .byte2 .ensures)
+returns c = let a = c .before .before .before .args in not-at-end (now (a .s)) (a .at) (c .if1 .taken)
+
+returns-2 : tie.Need-returns-2
+returns-2 c = let a = c .before .before .before .before .args in at-end (now (a .s)) (a .at) _ (c .byte .result) refl (c .byte .ensures)
 
 pub at-end-spec : {M : Type 1} → statement M
-at-end-spec = tie.close (tie.spec (search needs) (search needs) (search needs) returns)
+at-end-spec = tie.close (tie.spec (search needs) returns (search needs) (search needs) returns-2)

@@ -1,15 +1,13 @@
 -- `read_tokens` meets its contract. The loop's invariant: reading on from here gives the whole; the present token has no more characters than were passed.
 -- Assumes nothing.
-use Prim.Native.Nat.{_≤_, _<_, _+_, _-_, _^_}
+use Prim.Native.Nat.{_≤_, _<_, _-_, _^_}
 use borrow.Author.Needs.{needs}
 use denote.Ref.{now}
 use lib.ListN.{length, drop, getD}
-use mathlib.Core.Path.{_≡_, refl, sym, _∙_, ap}
+use mathlib.Core.Path.{_≡_, refl, sym, _∙_}
 use native.Mathlib.Omega.{arith}
-use Rattle.text.specs.Code.{scan, noTokens, noWord, pushed}
-use Rattle.text.specs.declared.tokens.Word.{Word}
-use Rattle.text.specs.declared.tokens.Token.{Token}
-use Rattle.text.proofs.Scanning.{scan-more, scan-ends, scan-start, scan-end, grown-fits, none-fits}
+use Rattle.text.specs.Code.{scan, noTokens, noWord}
+use Rattle.text.proofs.Scanning.{scan-more, scan-ends, scan-start, scan-end, scan-full, push-is, grown-fits, none-fits}
 use Rattle.text.proofs.Packing.{scan-packs}
 use Rattle.text.proofs.tokens.read_tokens.Statement.{statement}
 use Rattle.text.proofs.tokens.read_tokens.Tie as tie
@@ -35,25 +33,31 @@ add-i c = omega arith
 grown-requires : tie.Need-grown-requires Inv-loop μ-loop
 grown-requires c κs = record { counts = omega arith; small = c .before .before .before .loop .inv .2 }
 
+returns : tie.Need-returns Inv-loop μ-loop
+returns c =
+    let h = c .before .before .before .before .before .before .before in
+    let k = h .before .before .before in
+    let l = now (k .before .args .l) in
+    sym (scan-full (h .loop .ts) (h .loop .w) (drop (h .loop .i) l) (c .if2 .taken)) ∙ h .loop .inv .3 ∙ scan-packs l (λ i. omega (arith, k .shared-slice-known .given i))
+
 loop-less : tie.Need-loop-less Inv-loop μ-loop
 loop-less c = omega arith
 
 loop-again : tie.Need-loop-again Inv-loop μ-loop
 loop-again c =
-    let p = c .before in
-    let e = p .before .before .before in
+    let t = c .before in
+    let e = t .before .before .before in
     let g = e .before in
     let k = g .before in
-    let t = k .before .before in
-    let h = t .before in
+    let b = k .before .before in
+    let h = b .before in
     let l = now (h .before .before .before .before .args .l) in
     let i = h .loop .i in
     let n = none-fits (c .none3 .ensures) in (
       omega arith,
       omega (arith, n .0),
       n .1,
-      ap (λ (w : Word). scan (p .pushed .result) w (drop (i + 1) l)) (c .none3 .ensures)
-          ∙ scan-ends l (h .loop .ts) (h .loop .w) i (t .loop-test .taken) refl (k .character .ensures) (g .grown .ensures) (sym (e .ends .ensures) ∙ p .before .before .if1 .taken) (p .pushed .ensures ∙ ap (λ (u : Token). pushed (h .loop .ts) u) (p .before .token .ensures))
+      scan-ends l (h .loop .ts) (h .loop .w) i (b .loop-test .taken) refl (k .character .ensures) (g .grown .ensures) (sym (e .ends .ensures) ∙ t .before .before .if1 .taken) (push-is (h .loop .ts) (t .before .if2 .left) (t .token .ensures)) (c .none3 .ensures)
           ∙ h .loop .inv .3,
     )
 
@@ -76,8 +80,8 @@ loop-again-2 c =
       scan-more l (h .loop .ts) (h .loop .w) i (t .loop-test .taken) refl (k .character .ensures) (g .grown .ensures) (sym (e .ends .ensures) ∙ c .if1 .left) ∙ h .loop .inv .3,
     )
 
-returns : tie.Need-returns Inv-loop μ-loop
-returns c =
+returns-2 : tie.Need-returns-2 Inv-loop μ-loop
+returns-2 c =
     let h = c .before in
     let k = h .before .before .before in
     let l = now (k .before .args .l) in
@@ -97,6 +101,9 @@ read-tokens-spec =
     (search needs)
     grown-requires
     (search needs)
+    returns
+    (search needs)
+    (search needs)
     (search needs)
     (search needs)
     (search needs)
@@ -104,4 +111,4 @@ read-tokens-spec =
     loop-again
     loop-less-2
     loop-again-2
-    returns)
+    returns-2)
