@@ -1,11 +1,11 @@
 -- What the functions that read the parts of a line need of them.
 -- Assumes nothing.
 use mathlib.Core.Path.{_≡_, refl, sym, ap, _∙_}
-use mathlib.Core.Bool.{Bool, true, false, cond, _&&_, not}
+use mathlib.Core.Bool.{Bool, true, false, cond, _&&_}
 use mathlib.Core.List.{[]}
 use Prim.Native.Nat.{ℕ, zero, suc, _+_, _≤_, _<_}
 use native.Mathlib.Omega.{arith}
-use borrow.Author.Tests.{eqb-true}
+use borrow.Author.Tests.{eqb-true, ne-eqb}
 use lib.Dec.{eqb}
 use Rattle.numbers.specs.Bytes.{number, ascii}
 use Rattle.numbers.specs.Tests.{eqList, numbered}
@@ -16,7 +16,7 @@ use Rattle.program.proofs.Keys.{key-name}
 use Rattle.text.specs.Forms.{Parts}
 use Rattle.text.specs.Code.{tokenAt, spelt}
 use Rattle.forms.specs.Code.{noMatch, fillBy, slotsOf, formFor, partsOf}
-use Rattle.reading.specs.Code.{sayOf, anyBig, sayBy, partsBy, readParts, faulty, formBy, formNumbers}
+use Rattle.reading.specs.Code.{sayOf, anyBig, actsBy, declaresBy, partsBy, readParts, faulty, formBy, formNumbers}
 use Rattle.text.specs.declared.tokens.Tokens.{Tokens}
 use Rattle.forms.specs.declared.Match.{Match}
 use Rattle.reading.specs.declared.Reading.{Reading}
@@ -44,19 +44,19 @@ reserved-spelt k = pick (eqb k 0) refl
     pick true e = ap (λ (j : ℕ). reserved (nameOf j)) (eqb-true k 0 e) ∙ reserved-none
     pick false e = refl
 
--- What parts say: a literal that is too big comes first, then a reserved name.
+-- What parts say: a literal that is too big comes first.
 module _ (form : ℕ) (p : Parts) where
   pub read-big : anyBig p ≡ true → faulty 4 ≡ readParts form p
   unfolding readParts partsBy
   read-big e = rw e
 
-  pub read-reserved : anyBig p ≡ false → (not (eqb (sayOf form 0) 3) && reserved (p .name)) ≡ true → faulty 5 ≡ readParts form p
+  pub read-acts : anyBig p ≡ false → sayOf form 0 ≡ 3 → actsBy (sayOf form 1) (sayOf form 2) p ≡ readParts form p
   unfolding readParts partsBy
-  read-reserved e f = rw (e, f)
+  read-acts e f = rw (e, f)
 
-  pub read-says : anyBig p ≡ false → (not (eqb (sayOf form 0) 3) && reserved (p .name)) ≡ false → sayBy (sayOf form 0) (sayOf form 1) (sayOf form 2) p ≡ readParts form p
+  pub read-declares : anyBig p ≡ false → (sayOf form 0 ≡ 3 → ⊥) → declaresBy (sayOf form 0) p ≡ readParts form p
   unfolding readParts partsBy
-  read-says e f = rw (e, f)
+  read-declares e f = rw (e, ne-eqb (sayOf form 0) 3 f)
 
 -- One form after the other: none but the one that is chosen can be filled, so that it decides.
 module _ (ts : Tokens) where

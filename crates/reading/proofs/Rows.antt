@@ -20,7 +20,7 @@ use Rattle.text.specs.Forms as Form
 use Rattle.text.specs.Forms.{Line, Label, Declared, Acts, Parts, noParts, forms, naming, starting, Is, New, Target, Written, Left, Right, Start, Operating, Comparing}
 use Rattle.text.specs.Faults.{tooBig, bigValue, bigIn, declares}
 use Rattle.forms.specs.Code.{slotTable, slotsOf}
-use Rattle.reading.specs.Code.{formNumbers, smallOf, operandOf, cellBy, selectorBy, leftBy, rightBy, targetBy, sayTable, sayOf, sayBy, anyBig, partsBy, readParts, readingWith, faulty, noCell, saidBy}
+use Rattle.reading.specs.Code.{formNumbers, smallOf, operandOf, cellBy, selectorBy, leftBy, rightBy, targetBy, sayTable, sayOf, actsBy, declaresBy, anyBig, partsBy, readParts, readingWith, faulty, noCell, saidBy}
 use Rattle.reading.specs.declared.Reading.{Reading}
 use Rattle.text.proofs.Filled.{Filled, done, step, nothing, declared, aimed, wrote, onTheLeft, onTheRight, started, operated, compares, Sound}
 use Rattle.forms.proofs.Filling.{new, target, written, left, right, start, operator, comparison, fixed, Slots, end, rest, slot, cond-yes, cond-no}
@@ -39,7 +39,7 @@ small-operand (Literal z) e = ap O.Literal (small-same z e)
 small-operand (Variable v) e = refl
 
 label-says : (w : Name) → partsBy 1 0 0 (naming noParts w) ≡ lineReading (Label w)
-unfolding partsBy sayBy anyBig bigValue tooBig smallOf lineReading bigIn declares anyOf saidBy
+unfolding partsBy actsBy declaresBy anyBig bigValue tooBig smallOf lineReading bigIn declares anyOf saidBy
 label-says w = ap (λ (b : Bool). cond b (faulty 5) (readingWith 0 1 (key w) (pos 0) noCell)) (sym (or-false (reserved w)))
 
 start-big : (w : Name) (z : ℤ) → anyBig (starting (naming noParts w) z) ≡ tooBig z
@@ -47,7 +47,7 @@ unfolding anyBig bigValue tooBig
 start-big w z = refl
 
 declared-says : (w : Name) (z : ℤ) → partsBy 2 0 0 (starting (naming noParts w) z) ≡ lineReading (Declared w z)
-unfolding partsBy sayBy lineReading bigIn declares anyOf saidBy
+unfolding partsBy actsBy declaresBy lineReading bigIn declares anyOf saidBy
 declared-says w z = pick (tooBig z) refl
   where
     reading : ℤ → Reading
@@ -62,7 +62,7 @@ declared-says w z = pick (tooBig z) refl
 
 acts-says : (o shape : ℕ) (p : Parts) (s : Statement Name) (b : Bool) → anyBig p ≡ b → anyOf bigValue (operands s) ≡ b → (b ≡ false → cellBy o shape p ≡ cellOf key key s)
     → partsBy 3 o shape p ≡ lineReading (Acts s)
-unfolding partsBy sayBy lineReading bigIn declares anyOf saidBy
+unfolding partsBy actsBy declaresBy lineReading bigIn declares anyOf saidBy
 acts-says o shape p s true e f g = rw (e, f)
 acts-says o shape p s false e f g = rw (e, f, g refl)
 

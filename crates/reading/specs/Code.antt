@@ -89,18 +89,19 @@ readingWith fault kind name start cell = record { fault = fault; kind = kind; na
 abbrev pub faulty : ℕ → Reading
 faulty n = readingWith n 0 0 (pos 0) noCell
 
--- What parts say by the columns of their form.
-unfoldable pub sayBy : ℕ → ℕ → ℕ → Parts → Reading
-sayBy kind operation shape p =
-    cond (eqb kind 3) (readingWith 0 kind 0 (pos 0) (cellBy operation shape p)) (readingWith 0 kind (key (p .name)) (smallOf (p .start)) noCell)
+-- What parts say by the columns of their form: a statement; or a name that is declared.
+unfoldable pub actsBy : ℕ → ℕ → Parts → Reading
+actsBy operation shape p = readingWith 0 3 0 (pos 0) (cellBy operation shape p)
+
+unfoldable pub declaresBy : ℕ → Parts → Reading
+declaresBy kind p = cond (reserved (p .name)) (faulty 5) (readingWith 0 kind (key (p .name)) (smallOf (p .start)) noCell)
 
 unfoldable pub anyBig : Parts → Bool
 anyBig p = (bigValue (p .left) || bigValue (p .right)) || tooBig (p .start)
 
 unfoldable pub partsBy : ℕ → ℕ → ℕ → Parts → Reading
 partsBy kind operation shape p =
-    cond (anyBig p) (faulty 4)
-    (cond (not (eqb kind 3) && reserved (p .name)) (faulty 5) (sayBy kind operation shape p))
+    cond (anyBig p) (faulty 4) (cond (eqb kind 3) (actsBy operation shape p) (declaresBy kind p))
 
 unfoldable pub readParts : ℕ → Parts → Reading
 readParts form p = partsBy (sayOf form 0) (sayOf form 1) (sayOf form 2) p

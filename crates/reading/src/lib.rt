@@ -11,7 +11,7 @@ use text::tokens::Tokens;
 ghost use mathlib.Core.Path.{_≡_};
 ghost use Prim.Native.Nat.{_<_};
 ghost use Rattle.forms.specs.Code.{partsOf};
-ghost use Rattle.reading.specs.Code.{sayOf, faulty, sayBy, anyBig, readParts, formBy, formNumbers, statementBy, readingOf};
+ghost use Rattle.reading.specs.Code.{sayOf, faulty, actsBy, declaresBy, anyBig, readParts, formBy, formNumbers, statementBy, readingOf};
 
 pub mod cells;
 
@@ -89,18 +89,26 @@ fn say_at(form: usize, column: usize) -> u8
     SAYS[form][column]
 }
 
-// What the parts say where no fault is in them.
-fn say(parts: Match, kind: u8, operation: u8, shape: u8) -> Reading
-    ensures { λ r. ⌜ r ≡ sayBy kind operation shape (partsOf parts) ⌝ }
+// The statement of a form that took these parts.
+fn acts(parts: Match, form: usize) -> Reading
+    requires { ⌜ form < 21 ⌝ }
+    ensures { λ r. ⌜ r ≡ actsBy (sayOf form 1) (sayOf form 2) (partsOf parts) ⌝ }
 {
-    if kind == Reading::ACTS {
-        return Reading {
-            fault: 0,
-            kind,
-            name: 0,
-            start: 0,
-            cell: cells::cell(parts, operation, shape),
-        };
+    Reading {
+        fault: 0,
+        kind: Reading::ACTS,
+        name: 0,
+        start: 0,
+        cell: cells::cell(parts, say_at(form, 1), say_at(form, 2)),
+    }
+}
+
+// The name that the parts declare, which must not be reserved.
+fn declares(parts: Match, kind: u8) -> Reading
+    ensures { λ r. ⌜ r ≡ declaresBy kind (partsOf parts) ⌝ }
+{
+    if names::is_reserved(parts.name) {
+        return Reading::faulty(Reading::RESERVED_NAME);
     }
     let start = parts.start;
     Reading {
@@ -121,19 +129,19 @@ fn has_big(parts: Match) -> bool
     cells::is_big(x) | cells::is_big(y) | cells::is_big(start)
 }
 
-// What the parts that a form took say: a literal that is too big comes first, then a reserved name.
+// What the parts that a form took say; a literal that is too big comes before all else.
 fn read(parts: Match, form: usize) -> Reading
     requires { ⌜ form < 21 ⌝ }
     ensures { λ r. ⌜ r ≡ readParts form (partsOf parts) ⌝ }
 {
-    let kind = say_at(form, 0);
     if has_big(parts) {
         return Reading::faulty(Reading::BIG_LITERAL);
     }
-    if (kind != Reading::ACTS) & names::is_reserved(parts.name) {
-        return Reading::faulty(Reading::RESERVED_NAME);
+    let kind = say_at(form, 0);
+    if kind == Reading::ACTS {
+        return acts(parts, form);
     }
-    say(parts, kind, say_at(form, 1), say_at(form, 2))
+    declares(parts, kind)
 }
 
 // What the tokens say by the one form that they may fill.

@@ -1,0 +1,13 @@
+-- `acts` meets its contract.
+-- Assumes nothing.
+use borrow.Author.Needs.{needs}
+use Rattle.reading.specs.Code.{actsBy}
+use Rattle.reading.proofs.acts.Statement.{statement}
+use Rattle.reading.proofs.acts.Tie as tie
+
+returns : tie.Need-returns
+unfolding actsBy
+returns c = rw (c .cell .ensures, c .before .say-at2 .ensures, c .before .before .say-at .ensures)
+
+pub acts-spec : {M : Type 1} → statement M
+acts-spec = tie.close (tie.spec (search needs) (search needs) (search needs) returns)
