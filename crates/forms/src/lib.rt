@@ -116,17 +116,17 @@ pub struct Taken {
     pub value: Value,
 }
 
-// What the slots of a form took so far: whether each took something, where the next token stands, and the parts; a name and a sign by its key.
+// What the slots of a form took so far: where the next token stands, the parts, a name and a sign by its key; and whether each took something.
 pub struct Match {
-    pub ok: bool,
     pub place: usize,
-    pub name: u16,
-    pub written: u16,
     pub left: Value,
-    pub operator: u16,
-    pub comparison: u16,
     pub right: Value,
     pub start: Value,
+    pub name: u16,
+    pub written: u16,
+    pub operator: u16,
+    pub comparison: u16,
+    pub ok: bool,
 }
 
 fn is_variable(key: u16) -> bool
