@@ -74,6 +74,37 @@ const MINUS: u16 = b'-' as u16;
 // How many slots a form has at most.
 const SLOTS: usize = 6;
 
+// Where the forms of each mnemonic begin in the table, and those of an assignment.
+const AT_LB: usize = 0;
+
+const AT_VA: usize = 1;
+
+const AT_ASSIGNMENT: usize = 3;
+
+const AT_IC: usize = 5;
+
+const AT_DC: usize = 6;
+
+const AT_BR: usize = 7;
+
+const AT_CL: usize = 9;
+
+const AT_RT: usize = 11;
+
+const AT_E: usize = 12;
+
+const AT_H: usize = 13;
+
+const AT_OE: usize = 15;
+
+const AT_MA: usize = 17;
+
+const AT_MR: usize = 18;
+
+const AT_SL: usize = 19;
+
+const AT_PR: usize = 20;
+
 // The slots of the forms.
 const FORMS: [[u16; 6]; 21] = [
     [LB, NEW, 0, 0, 0, 0],
@@ -351,58 +382,58 @@ fn first_form(first: u16) -> usize
     ensures { λ r. ⌜ r ≡ firstForm first ⌝ }
 {
     if first == LB {
-        return 0;
+        return AT_LB;
     }
     if first == VA {
-        return 1;
+        return AT_VA;
     }
     if first == IC {
-        return 5;
+        return AT_IC;
     }
     if first == DC {
-        return 6;
+        return AT_DC;
     }
     if first == BR {
-        return 7;
+        return AT_BR;
     }
     if first == CL {
-        return 9;
+        return AT_CL;
     }
     if first == RT {
-        return 11;
+        return AT_RT;
     }
     if first == E {
-        return 12;
+        return AT_E;
     }
     if first == H {
-        return 13;
+        return AT_H;
     }
     if first == OE {
-        return 15;
+        return AT_OE;
     }
     if first == MA {
-        return 17;
+        return AT_MA;
     }
     if first == MR {
-        return 18;
+        return AT_MR;
     }
     if first == SL {
-        return 19;
+        return AT_SL;
     }
     if first == PR {
-        return 20;
+        return AT_PR;
     }
-    3
+    AT_ASSIGNMENT
 }
 
-// So many tokens, with this key of the second, are for the form behind this one.
+// So many tokens are too many for this form, and may fill the one behind it; those of OE are told apart by the second token.
 fn is_longer(form: usize, second: u16, count: usize) -> bool
     ensures { λ r. ⌜ r ≡ longerBy form second count ⌝ }
 {
-    (((form == 1) | (form == 7) | (form == 9)) & (2 < count))
-        | ((form == 3) & (4 < count))
-        | ((form == 13) & (1 < count))
-        | ((form == 15) & (second == ZERO))
+    (((form == AT_VA) | (form == AT_BR) | (form == AT_CL)) & (2 < count))
+        | ((form == AT_ASSIGNMENT) & (4 < count))
+        | ((form == AT_H) & (1 < count))
+        | ((form == AT_OE) & (second == ZERO))
 }
 
 // The one form that so many tokens may fill, by the keys of the first two.

@@ -21,7 +21,7 @@ pub struct Token {
     pub glued: bool,
 }
 
-// The first tokens of a line, at most `MOST`, which are more than any statement has; the places behind them hold none.
+// The first tokens of a line, at most `MOST`, which are more than any statement has. The places behind them hold none; no form looks further.
 pub struct Tokens {
     pub at: [Token; 12],
     pub count: usize,
