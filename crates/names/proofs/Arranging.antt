@@ -11,7 +11,7 @@ use lib.ListN.{length, take, drop, replicate, length-replicate}
 use Rattle.numbers.proofs.Tests.{Each}
 use Rattle.program.specs.Names.{Name}
 use Rattle.program.specs.Code.{nameOf}
-use Rattle.program.proofs.Keys.{name-key, user-word, user-two}
+use Rattle.program.proofs.Keys.{name-key, user-word}
 use Rattle.text.specs.Forms.{Line, Blank, Label, Declared, Acts}
 use Rattle.text.specs.Lines.{lines}
 use Rattle.text.specs.Faults.{heard, said}
@@ -26,11 +26,11 @@ use Rattle.rows.proofs.Seeking.{Spelt, looked-up, enter-long}
 use Rattle.names.specs.Code.{plus, enteredBy}
 use Rattle.names.proofs.Lines.{said-next, said-end, few-said, plus-most}
 
--- The names that a text declares have two characters. So its rows tell what the paper's walks find.
+-- The names that a text declares are the user's. So its rows tell what the paper's walks find.
 spelt : (x : Line) → Fine x → Spelt x
 spelt Blank f = tt
-spelt (Label w) f = user-two w f
-spelt (Declared w z) f = user-two w (f .0)
+spelt (Label w) f = f
+spelt (Declared w z) f = f .0
 spelt (Acts s) f = tt
 
 all-spelt : (ls : List (List ℕ)) → Each Spelt (map heard ls)

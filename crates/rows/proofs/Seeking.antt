@@ -6,24 +6,25 @@ use mathlib.Core.List.{List, [], _∷_}
 use Prim.Native.Nat.{ℕ, suc, _+_, _≤_, _<_}
 use native.Mathlib.Nat.{add-zero}
 use native.Mathlib.Omega.{arith}
-use borrow.Author.Tests.{lt-ltb, le-ltb}
+use borrow.Author.Tests.{eqb-true, not-false, lt-ltb, le-ltb}
 use lib.Dec.{T, eqb, ltb}
 use lib.ListN.{length, getD, set, replicate, length-replicate, length-set, getD-replicate, List·getD-eq-default}
 use lib.Seq.{set-out, set-getD, getD-set-same, getD-set-other}
-use Rattle.numbers.specs.Tests.{eqList, anyOf}
-use Rattle.numbers.proofs.Truth.{is-true, true-is, if-below}
+use Rattle.numbers.specs.Tests.{eqList, anyOf, numbered}
+use Rattle.numbers.proofs.Truth.{is-true, is-false, true-is, both, neither, if-below}
 use Rattle.numbers.proofs.Tests.{Each, eqList-refl, eqList-eq}
-use Rattle.program.specs.Names.{Name, twoCharacters}
+use Rattle.program.specs.Names.{Name, mnemonics, paperVariable, reserved, twoCharacters, userName}
+use Rattle.program.proofs.Keys.{user-two}
 use Rattle.text.specs.Forms.{Line, Blank, Label, Declared, Acts}
-use Rattle.text.specs.Faults.{declares, declaresIt, makesCell, makesLabel, makesVariable, firstMakes, placeOf, rankOf}
+use Rattle.text.specs.Faults.{declares, declaresIt, makesCell, makesLabel, makesVariable, firstMakes, placeOf, rankOf, numberOf}
 use Rattle.rows.specs.Rows.{rowOf, Row, row, kind, line, place, noRow, rowAt, enter, entered, arrangedFrom, arranged, linesBefore, Sought}
 use Rattle.rows.proofs.Order.{below, past, apart}
 
--- The names that lines declare have two characters.
+-- The names that lines declare are the user's.
 abbrev pub Spelt : Line → Type 0
 Spelt Blank = Unit {0}
-Spelt (Label w) = T (twoCharacters w)
-Spelt (Declared w z) = T (twoCharacters w)
+Spelt (Label w) = T (userName w)
+Spelt (Declared w z) = T (userName w)
 Spelt (Acts s) = Unit {0}
 
 -- The first of two rows that holds something.
@@ -118,8 +119,8 @@ entered-at : (n c v : ℕ) (x : Line) (rows : List Row) (w : Name) → Spelt x �
     → rowAt (entered n c v x rows) w ≡ cond (declaresIt w x) (kept (rowAt rows w) (made n c v x)) (rowAt rows w)
 unfolding entered declaresIt declares anyOf made
 entered-at n c v Blank rows w t long = refl
-entered-at n c v (Label u) rows w t long = rw (or-false (eqList w u)) (enter-at rows long u w t (row 1 n c) (eqList w u) refl)
-entered-at n c v (Declared u z) rows w t long = rw (or-false (eqList w u)) (enter-at rows long u w t (row 2 n v) (eqList w u) refl)
+entered-at n c v (Label u) rows w t long = rw (or-false (eqList w u)) (enter-at rows long u w (user-two u t) (row 1 n c) (eqList w u) refl)
+entered-at n c v (Declared u z) rows w t long = rw (or-false (eqList w u)) (enter-at rows long u w (user-two u t) (row 2 n v) (eqList w u) refl)
 entered-at n c v (Acts s) rows w t long = refl
 
 -- A row that a line makes of a name that it declares holds something.
@@ -256,6 +257,38 @@ looked : (text : List Line) (w : Name) → Each Spelt text → rowAt (arranged t
 unfolding arranged kept
 looked text w t = looked-from w text 1 0 0 (replicate 936 noRow) t (length-replicate 936 noRow) ∙ rw (none-yet w)
 
+-- A name that is declared is no variable of the paper, so its number is the user's.
+user-free : (w : Name) → T (userName w) → paperVariable w ≡ 0
+unfolding userName reserved
+user-free w t =
+    let r = is-false (reserved w) (both (twoCharacters w) (not (reserved w)) t .1) in
+    eqb-true (paperVariable w) 0 (not-false _ (neither (not (eqb (numbered mnemonics w) 0)) (not (eqb (paperVariable w) 0)) r .1))
+
+same-free : (w v : Name) → T (userName v) → (eqList w v || false) ≡ true → paperVariable w ≡ 0
+same-free w v t d =
+    let same : w ≡ v = eqList-eq w v (true-is (eqList w v) (sym (or-false (eqList w v)) ∙ d)) in
+    rw same (user-free v t)
+
+line-free : (w : Name) (x : Line) → Spelt x → declaresIt w x ≡ true → paperVariable w ≡ 0
+unfolding declaresIt declares anyOf
+line-free w Blank t d = absurd (true≢false (sym d))
+line-free w (Label v) t d = same-free w v t d
+line-free w (Declared v z) t d = same-free w v t d
+line-free w (Acts s) t d = absurd (true≢false (sym d))
+
+variable-free : (w : Name) (xs : List Line) → Each Spelt xs → firstMakes makesVariable w xs ≡ true → paperVariable w ≡ 0
+unfolding firstMakes
+variable-free w [] t h = absurd (true≢false (sym h))
+variable-free w (x ∷ xs) t h = pick (declaresIt w x) refl h (variable-free w xs (t .1))
+  where
+    pick : (b : Bool) → declaresIt w x ≡ b → cond b (makesVariable x) (firstMakes makesVariable w xs) ≡ true → (firstMakes makesVariable w xs ≡ true → paperVariable w ≡ 0) → paperVariable w ≡ 0
+    pick true d k ih = line-free w x (t .0) d
+    pick false d k ih = ih k
+
+number-is : (text : List Line) (w : Name) → Each Spelt text → firstMakes makesVariable w text ≡ true → 32 + rankOf text w ≡ numberOf text w
+unfolding numberOf
+number-is text w t h = rw (variable-free w text t h)
+
 -- Q-3 2, Q-3 3: looking a name up finds what seeking it from the front does.
 pub looked-up : (text : List Line) (w : Name) → Each Spelt text → Sought text w (rowAt (arranged text) w)
 looked-up text w t =
@@ -267,7 +300,7 @@ looked-up text w t =
       none = s .none;
       first = λ h. s .first h ∙ omega arith;
       placed = λ h. s .placed h ∙ omega arith;
-      ranked = λ h. s .ranked h ∙ omega arith;
+      numbered = λ h. omega (arith, s .ranked h, number-is text w t (sym (s .variable) ∙ h));
     })
 
 -- The arrangement has a row for each name.

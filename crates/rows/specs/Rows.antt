@@ -9,7 +9,7 @@ use lib.ListN.{getD, set, replicate}
 use Rattle.numbers.specs.Tests.{anyOf}
 use Rattle.program.specs.Names.{Name, twoCharacters}
 use Rattle.text.specs.Forms.{Line, Blank, Label, Declared, Acts}
-use Rattle.text.specs.Faults.{declaresIt, makesCell, makesLabel, makesVariable, firstMakes, placeOf, rankOf}
+use Rattle.text.specs.Faults.{declaresIt, makesCell, makesLabel, makesVariable, firstMakes, placeOf, numberOf}
 
 -- The order of names: by the first character, and by the second where the first is the same.
 unfoldable pub lower : Name → Name → Bool
@@ -78,4 +78,4 @@ pub record Sought (text : List Line) (w : Name) (r : Row) : Type 0 where
   pub none : eqb (kind r) 0 ≡ not (anyOf (declaresIt w) text)
   pub first : eqb (kind r) 0 ≡ false → line r ≡ suc (linesBefore text w)
   pub placed : eqb (kind r) 1 ≡ true → place r ≡ placeOf text w
-  pub ranked : eqb (kind r) 2 ≡ true → place r ≡ rankOf text w
+  pub numbered : eqb (kind r) 2 ≡ true → 32 + place r ≡ numberOf text w

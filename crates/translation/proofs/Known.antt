@@ -1,67 +1,26 @@
 -- In a text without a fault the rows of its names have the places and the numbers of the paper.
 -- Assumes nothing.
-use mathlib.Core.Path.{_≡_, refl, sym, ap, ap₂, _∙_}
-use mathlib.Core.Bool.{Bool, true, false, cond, _&&_, _||_, not, true≢false, and-true, or-false}
-use mathlib.Core.List.{List, [], _∷_, _++_, map}
-use Prim.Native.Nat.{ℕ, _+_, _≤_}
+use mathlib.Core.Path.{_≡_, refl, sym, ap, _∙_}
+use mathlib.Core.Bool.{Bool, true, false, cond, _&&_, _||_, not, and-true}
+use mathlib.Core.List.{List, [], _∷_, _++_}
+use Prim.Native.Nat.{ℕ, _≤_}
 use native.Mathlib.Omega.{arith}
-use borrow.Author.Tests.{eqb-true, not-false}
-use lib.Dec.{T, eqb}
+use borrow.Author.Tests.{not-false}
+use lib.Dec.{eqb}
 use lib.ListN.{length}
-use Rattle.numbers.specs.Tests.{eqList, anyOf, numbered}
-use Rattle.numbers.proofs.Truth.{is-false, true-is, both, neither}
-use Rattle.numbers.proofs.Tests.{Each, eqList-eq}
-use Rattle.program.specs.Names.{Name, mnemonics, paperVariable, reserved, twoCharacters, userName}
+use Rattle.numbers.specs.Tests.{anyOf}
+use Rattle.numbers.proofs.Truth.{neither}
+use Rattle.program.specs.Names.{Name, paperVariable}
 use Rattle.program.specs.Code.{nameOf}
-use Rattle.program.specs.Cells.{cell, noTarget}
-use Rattle.program.specs.Statements.{Literal, Variable}
-use Rattle.program.specs.declared.Cell.{Cell}
 use Rattle.program.specs.declared.Operand.{Operand}
 use Rattle.program.specs.declared.Operand.the-variants as O
-use Rattle.text.specs.Lines.{lines}
-use Rattle.text.specs.Forms.{Line, Blank, Label, Declared, Acts}
-use Rattle.text.specs.Faults.{heard, said, declares, declaresIt, makesLabel, makesVariable, firstMakes, undeclared, unknownVariable, unknownValue, placeOf, rankOf, numberOf}
+use Rattle.text.specs.Forms.{Line}
+use Rattle.text.specs.Faults.{said, declaresIt, makesLabel, makesVariable, firstMakes, undeclared, unknownVariable, unknownValue, placeOf, numberOf}
 use Rattle.reading.specs.Code.{saidBy, aimsAt, inOperand, placed, written, operandWith, resolved}
-use Rattle.reading.proofs.Heard.{Fine, heard-fine, undeclared-asked}
-use Rattle.rows.specs.Rows.{Row, kind, place, rowAt, arranged}
+use Rattle.reading.proofs.Heard.{Fine, undeclared-asked}
+use Rattle.rows.specs.Rows.{Row, kind, rowAt, arranged}
 use Rattle.names.proofs.Arranging.{sought, near}
 use Rattle.translation.specs.Code.{placeIn, numberIn, Low}
-
--- A name of the user's is no variable of the paper.
-user-free : (w : Name) → T (userName w) → paperVariable w ≡ 0
-unfolding userName reserved
-user-free w t =
-    let r = is-false (reserved w) (both (twoCharacters w) (not (reserved w)) t .1) in
-    eqb-true (paperVariable w) 0 (not-false _ (neither (not (eqb (numbered mnemonics w) 0)) (not (eqb (paperVariable w) 0)) r .1))
-
-same-free : (w v : Name) → T (userName v) → (eqList w v || false) ≡ true → paperVariable w ≡ 0
-same-free w v t d =
-    let same : w ≡ v = eqList-eq w v (true-is (eqList w v) (sym (or-false (eqList w v)) ∙ d)) in
-    rw same (user-free v t)
-
-line-free : (w : Name) (x : Line) → Fine x → declaresIt w x ≡ true → paperVariable w ≡ 0
-unfolding declaresIt declares anyOf
-line-free w Blank f d = absurd (true≢false (sym d))
-line-free w (Label v) f d = same-free w v f d
-line-free w (Declared v z) f d = same-free w v (f .0) d
-line-free w (Acts s) f d = absurd (true≢false (sym d))
-
-variable-free : (w : Name) (xs : List Line) → Each Fine xs → firstMakes makesVariable w xs ≡ true → paperVariable w ≡ 0
-unfolding firstMakes
-variable-free w [] f h = absurd (true≢false (sym h))
-variable-free w (x ∷ xs) f h = pick (declaresIt w x) refl h (variable-free w xs (f .1))
-  where
-    pick : (b : Bool) → declaresIt w x ≡ b → cond b (makesVariable x) (firstMakes makesVariable w xs) ≡ true → (firstMakes makesVariable w xs ≡ true → paperVariable w ≡ 0) → paperVariable w ≡ 0
-    pick true d k ih = line-free w x (f .0) d
-    pick false d k ih = ih k
-
-all-fine : (ls : List (List ℕ)) → Each Fine (map heard ls)
-all-fine [] = tt
-all-fine (l ∷ ls) = (heard-fine l, all-fine ls)
-
-all-said : (s : List ℕ) → Each Fine (said s)
-unfolding said
-all-said s = all-fine (lines s)
 
 -- The first line that declares a name is the one that no line before does it for.
 pub first-is : (p : Line → Bool) (w : Name) (before : List Line) (x : Line) (after : List Line) → anyOf (declaresIt w) before ≡ false → declaresIt w x ≡ true
@@ -89,7 +48,7 @@ module _ (s : List ℕ) where
       pick true e =
           let q = sought s w in
           let two : eqb (kind (rowAt R w)) 2 ≡ true = q .variable ∙ e in
-          rw (two, q .ranked two, variable-free w (said s) (all-said s) e)
+          rw two (q .numbered two)
       pick false e =
           let none : eqb (kind (rowAt R w)) 2 ≡ false = sought s w .variable ∙ e in
           let paper : eqb (paperVariable w) 0 ≡ false = sym (and-true (eqb (paperVariable w) 0)) ∙ (rw e at h) in
