@@ -4,9 +4,8 @@ use mathlib.Core.Bool.{Bool, false, cond, _&&_, _||_, not}
 use mathlib.Core.List.{List, [], _∷_}
 use Prim.Native.Nat.{ℕ, zero, suc}
 use lib.Dec.{eqb}
-use lib.ListN.{take, drop, getD}
+use lib.ListN.{getD}
 use lib.IntN.{ℤ, pos}
-use Rattle.numbers.specs.Bytes.{number}
 use Rattle.numbers.specs.Tests.{allOf, lowest}
 use Rattle.program.specs.Names.{Name, reserved}
 use Rattle.program.specs.Code.{key, nameOf}

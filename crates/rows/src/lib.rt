@@ -1,9 +1,8 @@
 // An arrangement of names: a row for each name of two characters, in the order of the names. What a name is first declared as is one step away.
 use program::names;
 ghost use mathlib.Core.Path.{_≡_};
-ghost use mathlib.Core.Bool.{true};
 ghost use lib.Dec.{T};
-ghost use Rattle.program.specs.Names.{wordCharacter, twoCharacters};
+ghost use Rattle.program.specs.Names.{wordCharacter};
 ghost use Rattle.program.specs.Code.{nameOf};
 ghost use Rattle.rows.specs.Rows.{secondPlace, rowOf, rowAt, enter};
 

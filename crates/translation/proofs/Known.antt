@@ -1,7 +1,7 @@
 -- In a text without a fault the rows of its names have the places and the numbers of the paper.
 -- Assumes nothing.
 use mathlib.Core.Path.{_≡_, refl, sym, ap, _∙_}
-use mathlib.Core.Bool.{Bool, true, false, cond, _&&_, _||_, not, and-true}
+use mathlib.Core.Bool.{Bool, true, false, cond, _&&_, not, and-true}
 use mathlib.Core.List.{List, [], _∷_, _++_}
 use Prim.Native.Nat.{ℕ, _≤_}
 use native.Mathlib.Omega.{arith}

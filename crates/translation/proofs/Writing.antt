@@ -18,7 +18,7 @@ use Rattle.numbers.proofs.Laws.{Bytes}
 use Rattle.numbers.proofs.Truth.{is-true, both}
 use Rattle.numbers.proofs.Tests.{eqList-refl}
 use Rattle.program.specs.Names.{Name, letter, wordCharacter, paperVariable, reserved, twoCharacters, userName}
-use Rattle.program.specs.Code.{key, nameOf}
+use Rattle.program.specs.Code.{nameOf}
 use Rattle.program.specs.Cells.{noTarget}
 use Rattle.program.specs.declared.Cell.{Cell}
 use Rattle.program.proofs.Keys.{IsWord, name-key, user-word, single, double}

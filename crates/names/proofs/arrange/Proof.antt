@@ -3,9 +3,7 @@
 use mathlib.Core.Path.{sym}
 use Prim.Native.Nat.{_+_, _-_}
 use borrow.Author.Needs.{needs}
-use denote.Ref.{now}
 use lib.ListN.{length}
-use native.Mathlib.Omega.{arith}
 use Rattle.names.proofs.Arranging.{Arranging, arranging, arrange-more, arranged-all}
 use Rattle.names.proofs.arrange.Statement.{statement}
 use Rattle.names.proofs.arrange.Tie as tie
