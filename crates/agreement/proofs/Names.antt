@@ -17,8 +17,9 @@ use Rattle.text.specs.Faults.{howMany, makesLabel, makesVariable, placeOf, decl
 use Rattle.image.specs.Layout.{labelPlace, labelTarget, variablePlace, nameAt}
 use Rattle.image.specs.Check.{recordPlace, recordName}
 use Rattle.translation.specs.Images.{imageOf}
+use Rattle.names.proofs.Lines.{first-makes}
 use Rattle.agreement.proofs.Sound.{Fine, Good, good}
-use Rattle.agreement.proofs.Places.{here, label-is, variable-is, rankBy, first-here, rank-here}
+use Rattle.agreement.proofs.Places.{here, label-is, variable-is, rankBy, rank-here}
 use Rattle.agreement.proofs.Records.{label-count, label-name, label-target, variable-name}
 
 -- The line that makes the label, or the variable, with this number.
@@ -106,7 +107,7 @@ module _ (xs : List Line) (f : Fine xs) where
       let once = declared-once (l .name) (Label (l .name)) refl xs (l .before) g in
       let it = declares-it (l .name) (Label (l .name)) refl in
       let first : firstMakes makesLabel (l .name) xs ≡ true =
-      ap (firstMakes makesLabel (l .name)) (l .whole) ∙ first-here makesLabel (l .name) (l .before) (Label (l .name)) (l .rest) once it in
+      ap (firstMakes makesLabel (l .name)) (l .whole) ∙ first-makes makesLabel (l .name) (l .before) (Label (l .name)) (l .rest) once it in
       let rank : rankBy makesLabel xs (l .name) ≡ k =
       ap (λ (ys : List Line). rankBy makesLabel ys (l .name)) (l .whole)
       ∙ rank-here makesLabel (l .name) (l .before) (Label (l .name)) (l .rest) once it
@@ -131,7 +132,7 @@ module _ (xs : List Line) (f : Fine xs) where
       let once = declared-once (l .name) x refl xs (l .before) g in
       let it = declares-it (l .name) x refl in
       let first : firstMakes makesLabel (l .name) xs ≡ false =
-      ap (firstMakes makesLabel (l .name)) (l .whole) ∙ first-here makesLabel (l .name) (l .before) x (l .rest) once it in
+      ap (firstMakes makesLabel (l .name)) (l .whole) ∙ first-makes makesLabel (l .name) (l .before) x (l .rest) once it in
       let rank : rankBy makesVariable xs (l .name) ≡ k =
       ap (λ (ys : List Line). rankBy makesVariable ys (l .name)) (l .whole) ∙ rank-here makesVariable (l .name) (l .before) x (l .rest) once it ∙ l .rank in
       record {

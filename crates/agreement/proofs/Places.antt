@@ -140,15 +140,7 @@ rank-rank [] w = refl
 rank-rank (x ∷ xs) w = rw (rank-rank xs w)
 
 module _ (p : Line → Bool) (w : Name) where
-  -- a line that declares a name that no line before it does is the first that declares it
-  pub first-here : (before : List Line) (x : Line) (rest : List Line) → anyOf (declaresIt w) before ≡ false → declaresIt w x ≡ true
-      → firstMakes p w (before ++ (x ∷ rest)) ≡ p x
-  unfolding firstMakes anyOf
-  first-here [] x rest h e = rw e
-  first-here (y ∷ before) x rest h e =
-      let n = neither (declaresIt w y) (anyOf (declaresIt w) before) h in
-      rw (n .0) (first-here before x rest (n .1) e)
-
+  -- behind a line that declares a name that no line before it does
   pub rank-here : (before : List Line) (x : Line) (rest : List Line) → anyOf (declaresIt w) before ≡ false → declaresIt w x ≡ true
       → rankBy p (before ++ (x ∷ rest)) w ≡ howMany p before
   unfolding rankBy anyOf howMany

@@ -13,6 +13,7 @@ use Rattle.numbers.proofs.Tests.{all-listed, eqList-refl, eqList-eq, all-append
 use Rattle.numbers.proofs.Truth.{both, is-true, is-no}
 use Rattle.text.specs.Forms.{Line, Label}
 use Rattle.text.specs.Faults.{declares, declaresIt, firstMakes, makesLabel, makesVariable}
+use Rattle.names.proofs.Lines.{makes-behind}
 use Rattle.image.specs.Layout.{cellCount, labelCount, variableCount, labelTarget}
 use Rattle.listing.specs.Listed.{variableSays, labelSays, labelsSay, cellSays, listedLines}
 use Rattle.listing.proofs.Clear.{all-flat}
@@ -28,19 +29,8 @@ pub declared-any : (w : Name) (xs : List Line) → anyOf (declaresIt w) xs ≡ a
 unfolding declaresIt
 declared-any w xs = sym (any-flat (eqList w) declares xs)
 
--- The first line that declares a name: where lines before do not, and where all lines make what is asked for.
+-- The first line that declares a name, where all lines make what is asked for: what declares the name passes the test.
 module _ (p : Line → Bool) (w : Name) where
-  pub makes-behind : (xs ys : List Line) → anyOf (declaresIt w) xs ≡ false → firstMakes p w (xs ++ ys) ≡ firstMakes p w ys
-  unfolding anyOf firstMakes
-  makes-behind [] ys h = refl
-  makes-behind (x ∷ xs) ys h = go (declaresIt w x) (anyOf (declaresIt w) xs) h (makes-behind xs ys)
-    where
-      go : (b c : Bool) → (b || c) ≡ false → (c ≡ false → firstMakes p w (xs ++ ys) ≡ firstMakes p w ys)
-          → cond b (p x) (firstMakes p w (xs ++ ys)) ≡ firstMakes p w ys
-      go true c e f = absurd (subst T e tt)
-      go false c e f = f e
-
-  -- What declares the name passes the test.
   pub makes-here : (xs ys : List Line) → T (allOf (λ x. not (declaresIt w x) || p x) xs) → T (anyOf (declaresIt w) xs) → firstMakes p w (xs ++ ys) ≡ true
   unfolding anyOf allOf firstMakes
   makes-here [] ys a h = absurd h

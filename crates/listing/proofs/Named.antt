@@ -27,7 +27,8 @@ use Rattle.listing.proofs.Resolved.{Written, Read, Aimed, Resolved, sta
 use Rattle.listing.proofs.Renamed.{refers-named}
 use Rattle.listing.proofs.Order.{cellLine}
 use Rattle.listing.proofs.Declaring.{label-declared, variable-declared}
-use Rattle.listing.proofs.Placed.{target-placed, paper-numbered, variable-numbered, user-no-paper}
+use Rattle.program.proofs.Keys.{user-no-paper}
+use Rattle.listing.proofs.Placed.{target-placed, paper-numbered, variable-numbered}
 
 module _ (s : List ℕ) (a : Accepted s) (r : Recorded s) where
   abbrev xs : List Line

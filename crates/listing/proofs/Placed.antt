@@ -12,13 +12,14 @@ use lib.Dec.{T, eqb, eqb→eq}
 use lib.ListN.{getD}
 use Rattle.numbers.specs.Bytes.{ascii}
 use Rattle.numbers.specs.Tests.{anyOf, allBelow, anyBelow, firstBelow, listed, eqList, numbered}
-use Rattle.program.specs.Names.{Name, variableNames, paperVariable, reserved, twoCharacters, userName, mnemonics}
+use Rattle.program.specs.Names.{Name, variableNames, paperVariable}
+use Rattle.program.proofs.Keys.{user-no-paper}
 use Rattle.program.specs.Variables.{present}
 use Rattle.text.specs.Forms.{Line, Label}
 use Rattle.text.specs.Faults.{declares, declaresIt, howMany, makesCell, makesVariable, placeOf, rankOf, numberOf}
 use Rattle.image.specs.Layout.{cellCount, labelCount, variableCount, labelTarget}
 use Rattle.numbers.proofs.Tests.{all-below, eqList-refl, eqList-eq, first-found, first-passes}
-use Rattle.numbers.proofs.Truth.{both, is-true, is-false, is-no, left-of}
+use Rattle.numbers.proofs.Truth.{is-true, is-no, left-of}
 use Rattle.program.proofs.Ranges.{by-present}
 use Rattle.listing.specs.Listing.{variableName, labelName}
 use Rattle.listing.specs.Listed.{variableSays, labelSays, labelsSay, cellSays, listedLines}
@@ -156,20 +157,6 @@ module _ (s : List ℕ) (r : Recorded s) (k : ℕ) (l : k < variableCount s) whe
       ap (λ (xs : List Line). rankOf xs (nameOfVariable s k)) (front-body s)
       ∙ ranked-from (body s) 0 (variableCount s) (omega arith) (omega arith) (omega arith)
       ∙ omega arith
-
--- A name of the user's is none of the paper's.
-pub user-no-paper : (w : Name) → T (userName w) → paperVariable w ≡ 0
-unfolding userName reserved
-user-no-paper w t =
-    let m = not (eqb (numbered mnemonics w) 0) in
-    let p = not (eqb (paperVariable w) 0) in
-    let f = is-false (m || p) (both (twoCharacters w) (not (m || p)) t .1) in
-    eqb-true (paperVariable w) 0 (go m (eqb (paperVariable w) 0) f)
-  where
-    go : (a b : Bool) → (a || not b) ≡ false → b ≡ true
-    go a true e = refl
-    go true false e = absurd (subst T e tt)
-    go false false e = absurd (subst T e tt)
 
 -- The paper's names have their places in the table.
 pub paper-numbered : (i : ℕ) → i < 20 → paperVariable (getD variableNames i []) ≡ suc i

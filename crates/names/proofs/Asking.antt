@@ -10,7 +10,7 @@ use lib.Dec.{eqb, ltb, leb·suc-suc}
 use lib.ListN.{length}
 use Rattle.numbers.specs.Tests.{eqList, anyOf, lowest}
 use Rattle.numbers.proofs.Truth.{is-true}
-use Rattle.numbers.proofs.Tests.{each-then, eqList-refl}
+use Rattle.numbers.proofs.Tests.{each-then, any-append, eqList-refl}
 use Rattle.program.specs.Names.{Name, paperVariable}
 use Rattle.program.specs.Code.{key, nameOf}
 use Rattle.program.specs.Cells as Cells
@@ -95,8 +95,7 @@ first-before w (y ∷ ys) x after d = pick (declaresIt w y) (first-before w ys x
 
 any-there : (w : Name) (before : List Line) (x : Line) (after : List Line) → declaresIt w x ≡ true → anyOf (declaresIt w) (before ++ (x ∷ after)) ≡ true
 unfolding anyOf
-any-there w [] x after d = rw d
-any-there w (y ∷ ys) x after d = rw (any-there w ys x after d) (or-true (declaresIt w y))
+any-there w before x after d = any-append (declaresIt w) before (x ∷ after) ∙ rw d (or-true (anyOf (declaresIt w) before))
 
 -- A line that declares a name has its key.
 own-name : (x : Line) → Fine x → declaring (saidBy x .kind) ≡ true → declaresIt (nameOf (saidBy x .name)) x ≡ true

@@ -8,11 +8,13 @@ use native.Mathlib.Omega.{arith}
 use lib.Dec.{eqb}
 use lib.ListN.{length, take, drop, getD, length-map}
 use lib.Seq.{take-all}
+use Rattle.numbers.specs.Tests.{anyOf}
+use Rattle.numbers.proofs.Truth.{neither}
 use Rattle.program.specs.Names.{Name}
 use Rattle.text.specs.Lines as Paper
 use Rattle.text.specs.Lines.{lines}
 use Rattle.text.specs.Forms.{Line}
-use Rattle.text.specs.Faults.{heard, said, declaresIt, makesCell, makesLabel, makesVariable, howMany, placeOf, rankOf}
+use Rattle.text.specs.Faults.{heard, said, declaresIt, makesCell, makesLabel, makesVariable, firstMakes, howMany, placeOf, rankOf}
 use Rattle.text.specs.Code.{Starts, LineAt}
 use Rattle.reading.specs.Code.{saidBy}
 use Rattle.text.specs.declared.Span.{Span}
@@ -85,6 +87,17 @@ pub few-ranks : (w : Name) (xs : List Line) → rankOf xs w ≤ length xs
 unfolding rankOf
 few-ranks w [] = omega arith
 few-ranks w (x ∷ xs) = step-few (declaresIt w x) (makesVariable x) (rankOf xs w) (length xs) (few-ranks w xs)
+
+-- The first line that declares a name, behind lines that do not; one that no line before it does it for.
+pub makes-behind : (p : Line → Bool) (w : Name) (xs ys : List Line) → anyOf (declaresIt w) xs ≡ false → firstMakes p w (xs ++ ys) ≡ firstMakes p w ys
+unfolding anyOf firstMakes
+makes-behind p w [] ys h = refl
+makes-behind p w (x ∷ xs) ys h = let n = neither (declaresIt w x) (anyOf (declaresIt w) xs) h in rw (n .0) (makes-behind p w xs ys (n .1))
+
+pub first-makes : (p : Line → Bool) (w : Name) (before : List Line) (x : Line) (rest : List Line) → anyOf (declaresIt w) before ≡ false → declaresIt w x ≡ true
+    → firstMakes p w (before ++ (x ∷ rest)) ≡ p x
+unfolding firstMakes
+first-makes p w before x rest h d = makes-behind p w before (x ∷ rest) h ∙ rw d
 
 -- Lines that pass a test are counted over two texts one behind the other.
 pub count-append : (p : Line → Bool) (xs ys : List Line) → howMany p (xs ++ ys) ≡ howMany p xs + howMany p ys

@@ -6,15 +6,15 @@ use mathlib.Core.List.{List, [], _∷_}
 use Prim.Native.Nat.{ℕ, suc, _+_, _≤_, _<_}
 use native.Mathlib.Nat.{add-zero}
 use native.Mathlib.Omega.{arith}
-use borrow.Author.Tests.{eqb-true, not-false, lt-ltb, le-ltb}
+use borrow.Author.Tests.{lt-ltb, le-ltb}
 use lib.Dec.{T, eqb, ltb}
 use lib.ListN.{length, getD, set, replicate, length-replicate, length-set, getD-replicate, List·getD-eq-default}
 use lib.Seq.{set-out, set-getD, getD-set-same, getD-set-other}
-use Rattle.numbers.specs.Tests.{eqList, anyOf, numbered}
-use Rattle.numbers.proofs.Truth.{is-true, is-false, true-is, both, neither, if-below}
+use Rattle.numbers.specs.Tests.{eqList, anyOf}
+use Rattle.numbers.proofs.Truth.{is-true, true-is, if-below}
 use Rattle.numbers.proofs.Tests.{Each, eqList-refl, eqList-eq}
-use Rattle.program.specs.Names.{Name, mnemonics, paperVariable, reserved, twoCharacters, userName}
-use Rattle.program.proofs.Keys.{user-two}
+use Rattle.program.specs.Names.{Name, paperVariable, twoCharacters, userName}
+use Rattle.program.proofs.Keys.{user-two, user-no-paper}
 use Rattle.text.specs.Forms.{Line, Blank, Label, Declared, Acts}
 use Rattle.text.specs.Faults.{declares, declaresIt, makesCell, makesLabel, makesVariable, firstMakes, placeOf, rankOf, numberOf}
 use Rattle.rows.specs.Rows.{rowOf, Row, row, kind, line, place, noRow, rowAt, enter, entered, arrangedFrom, arranged, linesBefore, Sought}
@@ -258,16 +258,10 @@ unfolding arranged kept
 looked text w t = looked-from w text 1 0 0 (replicate 936 noRow) t (length-replicate 936 noRow) ∙ rw (none-yet w)
 
 -- A name that is declared is no variable of the paper, so its number is the user's.
-user-free : (w : Name) → T (userName w) → paperVariable w ≡ 0
-unfolding userName reserved
-user-free w t =
-    let r = is-false (reserved w) (both (twoCharacters w) (not (reserved w)) t .1) in
-    eqb-true (paperVariable w) 0 (not-false _ (neither (not (eqb (numbered mnemonics w) 0)) (not (eqb (paperVariable w) 0)) r .1))
-
 same-free : (w v : Name) → T (userName v) → (eqList w v || false) ≡ true → paperVariable w ≡ 0
 same-free w v t d =
     let same : w ≡ v = eqList-eq w v (true-is (eqList w v) (sym (or-false (eqList w v)) ∙ d)) in
-    rw same (user-free v t)
+    rw same (user-no-paper v t)
 
 line-free : (w : Name) (x : Line) → Spelt x → declaresIt w x ≡ true → paperVariable w ≡ 0
 unfolding declaresIt declares anyOf

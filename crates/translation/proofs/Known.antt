@@ -2,32 +2,24 @@
 -- Assumes nothing.
 use mathlib.Core.Path.{_≡_, refl, sym, ap, _∙_}
 use mathlib.Core.Bool.{Bool, true, false, cond, _&&_, not, and-true}
-use mathlib.Core.List.{List, [], _∷_, _++_}
+use mathlib.Core.List.{List}
 use Prim.Native.Nat.{ℕ, _≤_}
 use native.Mathlib.Omega.{arith}
 use borrow.Author.Tests.{not-false}
 use lib.Dec.{eqb}
 use lib.ListN.{length}
-use Rattle.numbers.specs.Tests.{anyOf}
 use Rattle.numbers.proofs.Truth.{neither}
 use Rattle.program.specs.Names.{Name, paperVariable}
 use Rattle.program.specs.Code.{nameOf}
 use Rattle.program.specs.declared.Operand.{Operand}
 use Rattle.program.specs.declared.Operand.the-variants as O
 use Rattle.text.specs.Forms.{Line}
-use Rattle.text.specs.Faults.{said, declaresIt, makesLabel, makesVariable, firstMakes, undeclared, unknownVariable, unknownValue, placeOf, numberOf}
+use Rattle.text.specs.Faults.{said, makesLabel, makesVariable, firstMakes, undeclared, unknownVariable, unknownValue, placeOf, numberOf}
 use Rattle.reading.specs.Code.{saidBy, aimsAt, inOperand, placed, written, operandWith, resolved}
 use Rattle.reading.proofs.Heard.{Fine, undeclared-asked}
 use Rattle.rows.specs.Rows.{Row, kind, rowAt, arranged}
 use Rattle.names.proofs.Arranging.{sought, near}
 use Rattle.translation.specs.Code.{placeIn, numberIn, Low}
-
--- The first line that declares a name is the one that no line before does it for.
-pub first-is : (p : Line → Bool) (w : Name) (before : List Line) (x : Line) (after : List Line) → anyOf (declaresIt w) before ≡ false → declaresIt w x ≡ true
-    → firstMakes p w (before ++ (x ∷ after)) ≡ p x
-unfolding firstMakes anyOf
-first-is p w [] x after h d = rw d
-first-is p w (y ∷ ys) x after h d = let n = neither (declaresIt w y) (anyOf (declaresIt w) ys) h in rw (n .0) (first-is p w ys x after (n .1) d)
 
 module _ (s : List ℕ) where
   abbrev R : List Row

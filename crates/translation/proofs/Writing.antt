@@ -32,7 +32,7 @@ use Rattle.text.proofs.Lines.{starts-first}
 use Rattle.reading.specs.declared.Reading.{Reading}
 use Rattle.reading.proofs.Heard.{Fine, heard-fine, cell-resolved}
 use Rattle.rows.specs.Rows.{Row, kind, place, rowAt, arranged}
-use Rattle.names.proofs.Lines.{said-next, said-before, said-split, said-none, said-end}
+use Rattle.names.proofs.Lines.{said-next, said-before, said-split, said-none, said-end, first-makes}
 use Rattle.image.specs.Layout.{cellBytes}
 use Rattle.image.proofs.Back.{label-bytes, variable-bytes}
 use Rattle.image.proofs.Laws.{length-cell, length-label, length-variable}
@@ -40,7 +40,7 @@ use Rattle.translation.specs.declared.Places.{Places}
 use Rattle.translation.specs.Images.{cellPart, labelPart, variablePart}
 use Rattle.translation.specs.Code.{placeIn, numberIn, Low, emitFrom, cellOut, labelOut, variableOut, emittedBy, placesBy, Within}
 use Rattle.translation.proofs.Accepted.{NoneOf, Clean, all-clean, no-repeated, no-undeclared}
-use Rattle.translation.proofs.Known.{first-is, place-known, cell-known}
+use Rattle.translation.proofs.Known.{place-known, cell-known}
 use Rattle.translation.proofs.Parts.{TwoNamed, AllTwo}
 
 -- The number of a variable: the user's; the paper's. The place of a label.
@@ -156,7 +156,7 @@ module _ (s : List ℕ) (before after : List Line) (l : List ℕ) (e : before ++
       let none : repeated before (Label w) ≡ false = sym (ap (repeated before) q) ∙ no-repeated text before l clean in
       let there : before ++ (Label w ∷ after) ≡ text = ap (λ (x : Line). before ++ (x ∷ after)) (sym q) ∙ e in
       let self : declaresIt w (Label w) ≡ true = rw (is-true (eqList w w) (eqList-refl w)) in
-      place-known s w (rw (← there) (first-is makesLabel w before (Label w) after (sym (or-false _) ∙ none) self))
+      place-known s w (rw (← there) (first-makes makesLabel w before (Label w) after (sym (or-false _) ∙ none) self))
 
   label-said : (x : Line) → heard l ≡ x → Fine x → labelOut R (saidBy x) ≡ labelPart text x
   unfolding labelOut labelPart saidBy
