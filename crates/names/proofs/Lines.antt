@@ -14,7 +14,7 @@ use Rattle.program.specs.Names.{Name}
 use Rattle.text.specs.Lines as Paper
 use Rattle.text.specs.Lines.{lines}
 use Rattle.text.specs.Forms.{Line}
-use Rattle.text.specs.Faults.{heard, said, declaresIt, makesCell, makesLabel, makesVariable, firstMakes, howMany, placeOf, rankOf}
+use Rattle.text.specs.Faults.{heard, said, declaresIt, makesCell, makesLabel, makesVariable, firstMakes, howMany}
 use Rattle.text.specs.Code.{Starts, LineAt}
 use Rattle.reading.specs.Code.{saidBy}
 use Rattle.text.specs.declared.Span.{Span}
@@ -71,22 +71,6 @@ few-lines (b ∷ bs) = pick (eqb b 10) (eqb b 13 && eqb (getD bs 0 0) 10) (few-l
 pub few-said : (s : List ℕ) → length (said s) ≤ length s
 unfolding said
 few-said s = omega (arith, length-map (lines s) heard, few-lines s)
-
--- No name stands behind more cells or variables than there are lines.
-step-few : (x b : Bool) (n m : ℕ) → n ≤ m → cond x 0 (cond b (suc n) n) ≤ suc m
-step-few true b n m h = omega arith
-step-few false true n m h = omega arith
-step-few false false n m h = omega arith
-
-pub few-places : (w : Name) (xs : List Line) → placeOf xs w ≤ length xs
-unfolding placeOf
-few-places w [] = omega arith
-few-places w (x ∷ xs) = step-few (declaresIt w x) (makesCell x) (placeOf xs w) (length xs) (few-places w xs)
-
-pub few-ranks : (w : Name) (xs : List Line) → rankOf xs w ≤ length xs
-unfolding rankOf
-few-ranks w [] = omega arith
-few-ranks w (x ∷ xs) = step-few (declaresIt w x) (makesVariable x) (rankOf xs w) (length xs) (few-ranks w xs)
 
 -- The first line that declares a name, behind lines that do not; one that no line before it does it for.
 pub makes-behind : (p : Line → Bool) (w : Name) (xs ys : List Line) → anyOf (declaresIt w) xs ≡ false → firstMakes p w (xs ++ ys) ≡ firstMakes p w ys

@@ -16,7 +16,7 @@ use Rattle.program.proofs.Keys.{name-two, two-bytes}
 use Rattle.rows.specs.Rows.{lower, secondPlace, rowOf}
 
 -- The characters of a name.
-pub letter-range : (c : ℕ) → T (letter c) → (65 ≤ c) × (c ≤ 90)
+letter-range : (c : ℕ) → T (letter c) → (65 ≤ c) × (c ≤ 90)
 unfolding letter
 letter-range c t = let p = both (leb 65 c) (leb c 90) t in (leb→le 65 c (p .0), leb→le c 90 (p .1))
 
@@ -24,7 +24,7 @@ digit-range : (c : ℕ) → T (digit c) → (48 ≤ c) × (c ≤ 57)
 unfolding digit
 digit-range c t = let p = both (leb 48 c) (leb c 57) t in (leb→le 48 c (p .0), leb→le c 57 (p .1))
 
-pub character-range : (c : ℕ) → T (wordCharacter c) → ((65 ≤ c) × (c ≤ 90)) ⊎ ((48 ≤ c) × (c ≤ 57))
+character-range : (c : ℕ) → T (wordCharacter c) → ((65 ≤ c) × (c ≤ 90)) ⊎ ((48 ≤ c) × (c ≤ 57))
 unfolding wordCharacter
 character-range c t = ⊎-elim (λ p. inl (letter-range c p)) (λ p. inr (digit-range c p)) (either (letter c) (digit c) t)
 
@@ -50,7 +50,7 @@ second-below c t =
     (λ r. omega (arith, digit-place c (r .1), r .0, r .1))
     (character-range c t)
 
-pub second-lower : (c d : ℕ) → T (wordCharacter c) → T (wordCharacter d) → c < d → secondPlace c < secondPlace d
+second-lower : (c d : ℕ) → T (wordCharacter c) → T (wordCharacter d) → c < d → secondPlace c < secondPlace d
 second-lower c d t u h =
     ⊎-elim
     (λ r. omega (arith, letter-place c (omega (arith, r .0)), letter-place d (omega (arith, r .0)), r .0))
@@ -68,10 +68,10 @@ second-apart c d t u e =
     (λ h. if-below d c (λ g. let k = second-lower d c u t g in absurd (omega arith)) (λ g. omega arith))
 
 -- A name of two characters, taken apart.
-pub data IsName : Name → Type 0 where
+data IsName : Name → Type 0 where
   name : {a b : ℕ} → T (letter a) → T (wordCharacter b) → IsName (a ∷ b ∷ [])
 
-pub is-name : (w : Name) → T (twoCharacters w) → IsName w
+is-name : (w : Name) → T (twoCharacters w) → IsName w
 unfolding twoCharacters
 is-name [] t = absurd t
 is-name (a ∷ []) t = absurd t
