@@ -20,7 +20,7 @@ use Rattle.text.specs.declared.Span.{Span}
 use Rattle.reading.specs.Code.{saidBy, readingOf}
 use Rattle.reading.specs.declared.Reading.{Reading}
 use Rattle.reading.proofs.Heard.{Fine, heard-fine, cell-kind, variable-kind, reading-kind, reading-name}
-use Rattle.rows.specs.Rows.{Row, row, place, noRow, rowAt, enter, entered, arrangedFrom, arranged, Sought}
+use Rattle.rows.specs.Rows.{Row, row, place, noRow, rowAt, enter, made, entered, arrangedFrom, arranged, Sought}
 use Rattle.rows.proofs.Seeking as Seeking
 use Rattle.rows.proofs.Seeking.{Spelt, looked-up, enter-long}
 use Rattle.names.specs.Code.{plus, enteredBy}
@@ -47,7 +47,7 @@ near s w = omega (arith, Seeking.near (said s) w (all-spelt (lines s)), few-said
 
 -- A line by its reading.
 entered-by : (n c v : ℕ) (x : Line) (rows : List Row) → Fine x → enteredBy n c v (saidBy x .kind) (saidBy x .name) rows ≡ entered n c v x rows
-unfolding enteredBy entered saidBy
+unfolding enteredBy made entered saidBy
 entered-by n c v Blank rows f = refl
 entered-by n c v (Label w) rows f = ap (λ (u : Name). enter rows u (row 1 n c)) (name-key w (user-word w f))
 entered-by n c v (Declared w z) rows f = ap (λ (u : Name). enter rows u (row 2 n v)) (name-key w (user-word w (f .0)))

@@ -17,7 +17,7 @@ use Rattle.program.specs.Names.{Name, paperVariable, twoCharacters, userName}
 use Rattle.program.proofs.Keys.{user-two, user-no-paper}
 use Rattle.text.specs.Forms.{Line, Blank, Label, Declared, Acts}
 use Rattle.text.specs.Faults.{declares, declaresIt, makesCell, makesLabel, makesVariable, firstMakes, placeOf, rankOf, numberOf}
-use Rattle.rows.specs.Rows.{rowOf, Row, row, kind, line, place, noRow, rowAt, enter, entered, arrangedFrom, arranged, linesBefore, Sought}
+use Rattle.rows.specs.Rows.{rowOf, Row, kind, line, place, noRow, rowAt, enter, made, entered, arrangedFrom, arranged, linesBefore, Sought}
 use Rattle.rows.proofs.Order.{below, past, apart}
 
 -- The names that lines declare are the user's.
@@ -107,20 +107,13 @@ entered-long n c v (Label w) rows = enter-long rows w _
 entered-long n c v (Declared w z) rows = enter-long rows w _
 entered-long n c v (Acts s) rows = refl
 
--- The row that a line makes.
-made : ℕ → ℕ → ℕ → Line → Row
-made n cells variables Blank = noRow
-made n cells variables (Label w) = row 1 n cells
-made n cells variables (Declared w z) = row 2 n variables
-made n cells variables (Acts s) = noRow
-
 -- What stands in the row of a name behind one line more.
 entered-at : (n c v : ℕ) (x : Line) (rows : List Row) (w : Name) → Spelt x → length rows ≡ 936
     → rowAt (entered n c v x rows) w ≡ cond (declaresIt w x) (kept (rowAt rows w) (made n c v x)) (rowAt rows w)
-unfolding entered declaresIt declares anyOf made
+unfolding entered declaresIt declares anyOf
 entered-at n c v Blank rows w t long = refl
-entered-at n c v (Label u) rows w t long = rw (or-false (eqList w u)) (enter-at rows long u w (user-two u t) (row 1 n c) (eqList w u) refl)
-entered-at n c v (Declared u z) rows w t long = rw (or-false (eqList w u)) (enter-at rows long u w (user-two u t) (row 2 n v) (eqList w u) refl)
+entered-at n c v (Label u) rows w t long = rw (or-false (eqList w u)) (enter-at rows long u w (user-two u t) (made n c v (Label u)) (eqList w u) refl)
+entered-at n c v (Declared u z) rows w t long = rw (or-false (eqList w u)) (enter-at rows long u w (user-two u t) (made n c v (Declared u z)) (eqList w u) refl)
 entered-at n c v (Acts s) rows w t long = refl
 
 -- A row that a line makes of a name that it declares holds something.

@@ -11,11 +11,11 @@ use Rattle.program.specs.Names.{Name, twoCharacters}
 use Rattle.text.specs.Forms.{Line, Blank, Label, Declared, Acts}
 use Rattle.text.specs.Faults.{declaresIt, makesCell, makesLabel, makesVariable, firstMakes, placeOf, numberOf}
 
--- The order of names: by the first character, and by the second where the first is the same.
+-- Q-3 2: the order of names: by the first character, and by the second where the first is the same.
 unfoldable pub lower : Name → Name → Bool
 lower v w = ltb (getD v 0 0) (getD w 0 0) || (eqb (getD v 0 0) (getD w 0 0) && ltb (getD v 1 0) (getD w 1 0))
 
--- The row of a name: 36 names begin alike, and of these the ones with a digit come first. What is no name of two characters is past the 936 rows.
+-- Q-3 2: the row of a name: 36 names begin alike, and of these the ones with a digit come first. What is no name of two characters is past the 936 rows.
 unfoldable pub secondPlace : ℕ → ℕ
 secondPlace c = cond (leb c 57) (c - 48) (c - 65 + 10)
 
@@ -50,11 +50,18 @@ rowAt rows w = getD rows (rowOf w) noRow
 unfoldable pub enter : List Row → Name → Row → List Row
 enter rows w r = cond (ltb 0 (kind (rowAt rows w))) rows (set rows (rowOf w) r)
 
--- The line with this number, behind so many cells and variables.
+-- The row that the line with this number makes of the name that it declares, behind so many cells and variables.
+unfoldable pub made : ℕ → ℕ → ℕ → Line → Row
+made n cells variables Blank = noRow
+made n cells variables (Label w) = row 1 n cells
+made n cells variables (Declared w z) = row 2 n variables
+made n cells variables (Acts s) = noRow
+
+-- That line enters the name, if it declares one.
 unfoldable pub entered : ℕ → ℕ → ℕ → Line → List Row → List Row
 entered n cells variables Blank rows = rows
-entered n cells variables (Label w) rows = enter rows w (row 1 n cells)
-entered n cells variables (Declared w z) rows = enter rows w (row 2 n variables)
+entered n cells variables (Label w) rows = enter rows w (made n cells variables (Label w))
+entered n cells variables (Declared w z) rows = enter rows w (made n cells variables (Declared w z))
 entered n cells variables (Acts s) rows = rows
 
 -- Q-3 2: the arrangement of the names that lines declare: one line after the other, from the first.
