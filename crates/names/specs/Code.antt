@@ -114,7 +114,10 @@ pub record Reached (s : List ℕ) (p : Passed) : Type 0 where
 
 -- The lowest fault of each line from this place on.
 unfoldable pub faultsOn : List ℕ → ℕ → List ℕ
-faultsOn s at = map (lowest 2) (faultsFrom (said s) (said (take at s)) (lines (drop at s)))
+faultsOn s at =
+    let text = said s in
+    let before = said (take at s) in
+    map (lowest 2) (faultsFrom text before (lines (drop at s)))
 
 -- One line more is passed, and this is its lowest fault.
 pub record OnePassed (s : List ℕ) (p r : Passed) : Type 0 where
