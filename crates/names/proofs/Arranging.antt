@@ -20,11 +20,11 @@ use Rattle.text.specs.declared.Span.{Span}
 use Rattle.reading.specs.Code.{saidBy, readingOf}
 use Rattle.reading.specs.declared.Reading.{Reading}
 use Rattle.reading.proofs.Heard.{Fine, heard-fine, cell-kind, variable-kind, reading-kind, reading-name}
-use Rattle.rows.specs.Rows.{Row, row, place, noRow, rowAt, enter, made, entered, arrangedFrom, arranged, Sought}
+use Rattle.rows.specs.Rows.{Row, row, place, noRow, rowAt, enter, made, entered, plus, arrangedFrom, arranged, Sought}
 use Rattle.rows.proofs.Seeking as Seeking
-use Rattle.rows.proofs.Seeking.{Spelt, looked-up, enter-long}
-use Rattle.names.specs.Code.{plus, enteredBy}
-use Rattle.names.proofs.Lines.{said-next, said-end, few-said, plus-most}
+use Rattle.rows.proofs.Seeking.{Spelt, looked-up, enter-long, plus-most}
+use Rattle.names.specs.Code.{enteredBy}
+use Rattle.names.proofs.Lines.{said-next, said-end, few-said}
 
 -- The names that a text declares are the user's. So its rows tell what the paper's walks find.
 spelt : (x : Line) → Fine x → Spelt x
@@ -87,7 +87,7 @@ module _ {s : List ℕ} {rows : List Row} {line cells variables at : ℕ} (h : A
   pub arrange-more : {r : Span} {q : Reading} {rows′ : List Row} {c v : ℕ} → LineAt s at r → q ≡ readingOf (take (r .end - at) (drop at s))
       → rows′ ≡ enteredBy line cells variables (q .kind) (q .name) rows → c ≡ plus (eqb (q .kind) 3) cells → v ≡ plus (eqb (q .kind) 2) variables
       → Arranging s rows′ (line + 1) c v (r .next)
-  unfolding arrangedFrom plus
+  unfolding arrangedFrom
   arrange-more {r} {q} {rows′} l e f g k =
       let here : List ℕ = take (r .end - at) (drop at s) in
       let x = heard here in

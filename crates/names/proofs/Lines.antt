@@ -20,7 +20,8 @@ use Rattle.reading.specs.Code.{saidBy}
 use Rattle.text.specs.declared.Span.{Span}
 use Rattle.text.proofs.Lines.{lines-next, lines-end, lines-split}
 use Rattle.reading.proofs.Heard.{cell-kind, label-kind, variable-kind}
-use Rattle.names.specs.Code.{plus, counted, countsOf}
+use Rattle.rows.specs.Rows.{plus}
+use Rattle.names.specs.Code.{counted, countsOf}
 
 -- What is said from a place on: by the line there and those behind it; nothing at the end.
 pub said-next : (s : List ℕ) (at : ℕ) (r : Span) → LineAt s at r → said (drop at s) ≡ heard (take (r .end - at) (drop at s)) ∷ said (drop (r .next) s)
@@ -116,8 +117,3 @@ count-most p (x ∷ xs) = go (p x) (count-most p xs)
     go : (b : Bool) → howMany p xs ≤ length xs → cond b (suc (howMany p xs)) (howMany p xs) ≤ suc (length xs)
     go true h = omega arith
     go false h = omega arith
-
-pub plus-most : (b : Bool) (n : ℕ) → plus b n ≤ n + 1
-unfolding plus
-plus-most true n = omega arith
-plus-most false n = omega arith

@@ -20,15 +20,11 @@ use Rattle.text.specs.Forms.{Line}
 use Rattle.text.specs.Code.{Starts}
 use Rattle.text.specs.Faults.{said, faultsFrom, lineFaults, firstFault, howMany, makesCell, makesLabel, makesVariable}
 use Rattle.reading.specs.Code.{aimsAt, inOperand, declaring}
-use Rattle.rows.specs.Rows.{Row, row, kind, line, rowAt, enter}
+use Rattle.rows.specs.Rows.{Row, row, kind, line, rowAt, enter, plus}
 use Rattle.reading.specs.declared.Reading.{Reading}
 use Rattle.names.specs.declared.Counts.{Counts}
 use Rattle.names.specs.declared.Passed.{Passed}
 use Rattle.names.specs.declared.Survey.{Survey}
-
--- One more where the test holds.
-unfoldable pub plus : Bool → ℕ → ℕ
-plus b n = cond b (suc n) n
 
 -- A line of this kind, with this number and so many cells and variables before it, enters the name with this key.
 unfoldable pub enteredBy : ℕ → ℕ → ℕ → ℕ → ℕ → List Row → List Row

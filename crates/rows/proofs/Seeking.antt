@@ -17,7 +17,7 @@ use Rattle.program.specs.Names.{Name, paperVariable, twoCharacters, userName}
 use Rattle.program.proofs.Keys.{user-two, user-no-paper}
 use Rattle.text.specs.Forms.{Line, Blank, Label, Declared, Acts}
 use Rattle.text.specs.Faults.{declares, declaresIt, makesCell, makesLabel, makesVariable, firstMakes, placeOf, rankOf, numberOf}
-use Rattle.rows.specs.Rows.{rowOf, Row, kind, line, place, noRow, rowAt, enter, made, entered, arrangedFrom, arranged, linesBefore, Sought}
+use Rattle.rows.specs.Rows.{rowOf, Row, kind, line, place, noRow, rowAt, enter, made, entered, plus, arrangedFrom, arranged, linesBefore, Sought}
 use Rattle.rows.proofs.Order.{below, past, apart}
 
 -- The names that lines declare are the user's.
@@ -128,8 +128,12 @@ made-some n c v (Acts s) w e = e
 seekFrom : Row → Name → ℕ → ℕ → ℕ → List Line → Row
 seekFrom d w n c v [] = d
 seekFrom d w n c v (x ∷ xs) =
-    let more = seekFrom d w (suc n) (cond (makesCell x) (suc c) c) (cond (makesVariable x) (suc v) v) xs in
+    let more = seekFrom d w (suc n) (plus (makesCell x) c) (plus (makesVariable x) v) xs in
     cond (declaresIt w x) (made n c v x) more
+
+-- Seeking among the lines behind one.
+abbrev seekBehind : Line → Row → Name → ℕ → ℕ → ℕ → List Line → Row
+seekBehind x d w n c v xs = seekFrom d w (suc n) (plus (makesCell x) c) (plus (makesVariable x) v) xs
 
 module _ (w : Name) where
   looked-from : (xs : List Line) (n c v : ℕ) (rows : List Row) → Each Spelt xs → length rows ≡ 936
@@ -141,15 +145,9 @@ module _ (w : Name) where
       same true = refl
       same false = refl
   looked-from (x ∷ xs) n c v rows t long =
-      looked-from xs (suc n) c′ v′ (entered n c v x rows) (t .1) (entered-long n c v x rows ∙ long)
+      looked-from xs (suc n) (plus (makesCell x) c) (plus (makesVariable x) v) (entered n c v x rows) (t .1) (entered-long n c v x rows ∙ long)
       ∙ pick (declaresIt w x) refl (entered-at n c v x rows w (t .0) long)
     where
-      c′ : ℕ
-      c′ = cond (makesCell x) (suc c) c
-
-      v′ : ℕ
-      v′ = cond (makesVariable x) (suc v) v
-
       r : Row
       r = rowAt rows w
 
@@ -160,11 +158,11 @@ module _ (w : Name) where
       q = made n c v x
 
       pick : (b : Bool) → declaresIt w x ≡ b → r′ ≡ cond b (kept r q) r
-          → kept r′ (seekFrom r′ w (suc n) c′ v′ xs) ≡ kept r (cond b q (seekFrom r w (suc n) c′ v′ xs))
-      pick false d e = ap (λ (z : Row). kept z (seekFrom z w (suc n) c′ v′ xs)) e
-      pick true d e = ap (λ (z : Row). kept z (seekFrom z w (suc n) c′ v′ xs)) e ∙ go (ltb 0 (kind r)) refl
+          → kept r′ (seekBehind x r′ w n c v xs) ≡ kept r (cond b q (seekBehind x r w n c v xs))
+      pick false d e = ap (λ (z : Row). kept z (seekBehind x z w n c v xs)) e
+      pick true d e = ap (λ (z : Row). kept z (seekBehind x z w n c v xs)) e ∙ go (ltb 0 (kind r)) refl
         where
-          go : (b : Bool) → ltb 0 (kind r) ≡ b → kept (kept r q) (seekFrom (kept r q) w (suc n) c′ v′ xs) ≡ kept r q
+          go : (b : Bool) → ltb 0 (kind r) ≡ b → kept (kept r q) (seekBehind x (kept r q) w n c v xs) ≡ kept r q
           go true h = rw (h, h)
           go false h = rw (h, made-some n c v x w d)
 
@@ -185,7 +183,8 @@ record SoughtFrom (n c v : ℕ) (xs : List Line) (w : Name) (r : Row) : Type 0 w
   placed : eqb (kind r) 1 ≡ true → place r ≡ c + placeOf xs w
   ranked : eqb (kind r) 2 ≡ true → place r ≡ v + rankOf xs w
 
-one-more : (b : Bool) (c n : ℕ) → cond b (suc c) c + n ≡ c + cond b (suc n) n
+one-more : (b : Bool) (c n : ℕ) → plus b c + n ≡ c + cond b (suc n) n
+unfolding plus
 one-more true c n = omega arith
 one-more false c n = refl
 
@@ -216,7 +215,7 @@ module _ (w : Name) (x : Line) (xs : List Line) (n c v : ℕ) where
       }
 
   -- It does not.
-  found-later : (r : Row) → declaresIt w x ≡ false → SoughtFrom (suc n) (cond (makesCell x) (suc c) c) (cond (makesVariable x) (suc v) v) xs w r → SoughtFrom n c v (x ∷ xs) w r
+  found-later : (r : Row) → declaresIt w x ≡ false → SoughtFrom (suc n) (plus (makesCell x) c) (plus (makesVariable x) v) xs w r → SoughtFrom n c v (x ∷ xs) w r
   unfolding firstMakes anyOf linesBefore placeOf rankOf
   found-later r d h =
       record {
@@ -231,18 +230,12 @@ module _ (w : Name) (x : Line) (xs : List Line) (n c v : ℕ) where
 sought-from : (w : Name) (xs : List Line) (n c v : ℕ) → SoughtFrom n c v xs w (seekFrom noRow w n c v xs)
 unfolding seekFrom firstMakes anyOf
 sought-from w [] n c v = record { label = refl; variable = refl; none = refl; first = λ h. absurd (true≢false h); placed = λ h. absurd (true≢false (sym h)); ranked = λ h. absurd (true≢false (sym h)) }
-sought-from w (x ∷ xs) n c v = pick (declaresIt w x) refl (sought-from w xs (suc n) c′ v′)
+sought-from w (x ∷ xs) n c v = pick (declaresIt w x) refl (sought-from w xs (suc n) (plus (makesCell x) c) (plus (makesVariable x) v))
   where
-    c′ : ℕ
-    c′ = cond (makesCell x) (suc c) c
-
-    v′ : ℕ
-    v′ = cond (makesVariable x) (suc v) v
-
     r : Row
-    r = seekFrom noRow w (suc n) c′ v′ xs
+    r = seekBehind x noRow w n c v xs
 
-    pick : (b : Bool) → declaresIt w x ≡ b → SoughtFrom (suc n) c′ v′ xs w r → SoughtFrom n c v (x ∷ xs) w (cond b (made n c v x) r)
+    pick : (b : Bool) → declaresIt w x ≡ b → SoughtFrom (suc n) (plus (makesCell x) c) (plus (makesVariable x) v) xs w r → SoughtFrom n c v (x ∷ xs) w (cond b (made n c v x) r)
     pick true d ih = found-here w x xs n c v d
     pick false d ih = found-later w x xs n c v r d ih
 
@@ -294,36 +287,33 @@ looked-up text w t =
 long-from : (xs : List Line) (n c v : ℕ) (rows : List Row) → length (arrangedFrom n c v xs rows) ≡ length rows
 unfolding arrangedFrom
 long-from [] n c v rows = refl
-long-from (x ∷ xs) n c v rows = long-from xs (suc n) (cond (makesCell x) (suc c) c) (cond (makesVariable x) (suc v) v) (entered n c v x rows) ∙ entered-long n c v x rows
+long-from (x ∷ xs) n c v rows = long-from xs (suc n) _ _ (entered n c v x rows) ∙ entered-long n c v x rows
 
 pub long : (text : List Line) → length (arranged text) ≡ 936
 unfolding arranged
 long text = long-from text 1 0 0 (replicate 936 noRow) ∙ length-replicate 936 noRow
 
+pub plus-most : (b : Bool) (n : ℕ) → plus b n ≤ n + 1
+unfolding plus
+plus-most true n = omega arith
+plus-most false n = omega arith
+
 -- No place is past the lines.
 near-from : (w : Name) (xs : List Line) (n c v most : ℕ) → c ≤ most → v ≤ most → place (seekFrom noRow w n c v xs) ≤ most + length xs
 unfolding seekFrom made
 near-from w [] n c v most h k = omega arith
-near-from w (x ∷ xs) n c v most h k = pick (declaresIt w x) (near-from w xs (suc n) c′ v′ (suc most) (more (makesCell x) c h) (more (makesVariable x) v k))
+near-from w (x ∷ xs) n c v most h k =
+    pick (declaresIt w x)
+    (near-from w xs (suc n) _ _ (suc most) (omega (arith, plus-most (makesCell x) c)) (omega (arith, plus-most (makesVariable x) v)))
   where
-    c′ : ℕ
-    c′ = cond (makesCell x) (suc c) c
-
-    v′ : ℕ
-    v′ = cond (makesVariable x) (suc v) v
-
-    more : (b : Bool) (m : ℕ) → m ≤ most → cond b (suc m) m ≤ suc most
-    more true m h = omega arith
-    more false m h = omega arith
-
     own : (x : Line) → place (made n c v x) ≤ most
     own Blank = omega arith
     own (Label w) = h
     own (Declared w z) = k
     own (Acts s) = omega arith
 
-    pick : (b : Bool) → place (seekFrom noRow w (suc n) c′ v′ xs) ≤ suc most + length xs
-        → place (cond b (made n c v x) (seekFrom noRow w (suc n) c′ v′ xs)) ≤ most + suc (length xs)
+    pick : (b : Bool) → place (seekBehind x noRow w n c v xs) ≤ suc most + length xs
+        → place (cond b (made n c v x) (seekBehind x noRow w n c v xs)) ≤ most + suc (length xs)
     pick true i = omega (arith, own x)
     pick false i = omega arith
 

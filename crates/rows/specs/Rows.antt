@@ -64,11 +64,15 @@ entered n cells variables (Label w) rows = enter rows w (made n cells variables 
 entered n cells variables (Declared w z) rows = enter rows w (made n cells variables (Declared w z))
 entered n cells variables (Acts s) rows = rows
 
+-- One more where the test holds.
+unfoldable pub plus : Bool → ℕ → ℕ
+plus b n = cond b (suc n) n
+
 -- Q-3 2: the arrangement of the names that lines declare: one line after the other, from the first.
 unfoldable pub arrangedFrom : ℕ → ℕ → ℕ → List Line → List Row → List Row
 arrangedFrom n cells variables [] rows = rows
 arrangedFrom n cells variables (x ∷ xs) rows =
-    arrangedFrom (suc n) (cond (makesCell x) (suc cells) cells) (cond (makesVariable x) (suc variables) variables) xs (entered n cells variables x rows)
+    arrangedFrom (suc n) (plus (makesCell x) cells) (plus (makesVariable x) variables) xs (entered n cells variables x rows)
 
 unfoldable pub arranged : List Line → List Row
 arranged text = arrangedFrom 1 0 0 text (replicate 936 noRow)

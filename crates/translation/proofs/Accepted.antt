@@ -11,7 +11,7 @@ use Rattle.numbers.specs.Tests.{lowest}
 use Rattle.numbers.proofs.Truth.{neither}
 use Rattle.numbers.proofs.Tests.{Each}
 use Rattle.program.specs.Variables.{mostCells, mostLabels, mostVariables}
-use Rattle.names.specs.Code.{plus}
+use Rattle.rows.specs.Rows.{plus}
 use Rattle.names.proofs.Lines.{count-more}
 use Rattle.text.specs.Lines.{lines}
 use Rattle.text.specs.Forms.{Line}

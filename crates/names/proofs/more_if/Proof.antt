@@ -1,6 +1,6 @@
 -- `more_if` meets its contract.
 -- Assumes nothing.
-use Rattle.names.specs.Code.{plus}
+use Rattle.rows.specs.Rows.{plus}
 use native.Mathlib.Numerals.{add-one}
 use borrow.Author.Needs.{needs}
 use Rattle.names.proofs.more_if.Statement.{statement}
