@@ -9,7 +9,7 @@ use borrow.Author.Tests.{eqb-true, eqb-false, ne-eqb, lt-ltb, le-ltb, ltb-true, 
 use lib.Dec.{T, eqb, ltb}
 use Rattle.numbers.specs.Bytes.{ascii}
 use Rattle.numbers.specs.Tests.{eqList, numbered}
-use Rattle.numbers.proofs.Truth.{is-true, eqb-turn, if-below}
+use Rattle.numbers.proofs.Truth.{is-true, eqb-turn, if-below, of-both}
 use Rattle.numbers.proofs.Lists.{EachFrom, each-from}
 use Rattle.program.specs.Names.{letter, digit, wordCharacter, mnemonics, variableNames, paperVariable, reserved, twoCharacters, userName}
 use Rattle.program.specs.Code.{nameOf}
@@ -23,18 +23,17 @@ use Rattle.forms.proofs.Matching.{fill-stop, found-used, kept-place}
 use Rattle.forms.proofs.Filling.{slot-fixed}
 
 -- It is one of the 21.
-below-cond : (t : Bool) (x y : ℕ) → x < 21 → y < 21 → cond t x y < 21
-below-cond true x y p q = p
-below-cond false x y p q = q
+abbrev IsForm : ℕ → Type 0
+IsForm x = x < 21
 
 pub first-below : (first : ℕ) → firstForm first < 21
 unfolding firstForm
 first-below first =
-    below-cond (eqb first 16972) _ _ (omega arith) (below-cond (eqb first 16726) _ _ (omega arith) (below-cond (eqb first 17225) _ _ (omega arith)
-    (below-cond (eqb first 17220) _ _ (omega arith) (below-cond (eqb first 21058) _ _ (omega arith) (below-cond (eqb first 19523) _ _ (omega arith)
-    (below-cond (eqb first 21586) _ _ (omega arith) (below-cond (eqb first 69) _ _ (omega arith) (below-cond (eqb first 72) _ _ (omega arith)
-    (below-cond (eqb first 17743) _ _ (omega arith) (below-cond (eqb first 16717) _ _ (omega arith) (below-cond (eqb first 21069) _ _ (omega arith)
-    (below-cond (eqb first 19539) _ _ (omega arith) (below-cond (eqb first 21072) _ _ (omega arith) (omega arith))))))))))))))
+    of-both IsForm (eqb first 16972) (omega arith) (of-both IsForm (eqb first 16726) (omega arith) (of-both IsForm (eqb first 17225) (omega arith)
+    (of-both IsForm (eqb first 17220) (omega arith) (of-both IsForm (eqb first 21058) (omega arith) (of-both IsForm (eqb first 19523) (omega arith)
+    (of-both IsForm (eqb first 21586) (omega arith) (of-both IsForm (eqb first 69) (omega arith) (of-both IsForm (eqb first 72) (omega arith)
+    (of-both IsForm (eqb first 17743) (omega arith) (of-both IsForm (eqb first 16717) (omega arith) (of-both IsForm (eqb first 21069) (omega arith)
+    (of-both IsForm (eqb first 19539) (omega arith) (of-both IsForm (eqb first 21072) (omega arith) (omega arith))))))))))))))
 
 not-longer : (form second count : ℕ) → 15 < form → longerBy form second count ≡ false
 not-longer form second count h =
@@ -54,7 +53,7 @@ form-below first second count = pick (firstForm first) (first-below first)
     pick : (form : ℕ) → form < 21 → cond (longerBy form second count) (form + 1) form < 21
     pick form h =
         if-below 15 form (λ l. rw (not-longer form second count l) h)
-        (λ l. below-cond (longerBy form second count) (form + 1) form (omega arith) h)
+        (λ l. of-both IsForm (longerBy form second count) (omega arith) h)
 
 -- A slot that takes something takes at least one token, and an operand at most two.
 width : ℕ → ℕ

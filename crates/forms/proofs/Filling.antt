@@ -13,7 +13,7 @@ use lib.ListN.{length, drop, length-drop}
 use lib.Seq.{drop-drop}
 use Rattle.numbers.specs.Bytes.{ascii}
 use Rattle.numbers.specs.Tests.{eqList}
-use Rattle.numbers.proofs.Truth.{is-true, eqb-turn, same-test}
+use Rattle.numbers.proofs.Truth.{is-true, eqb-turn, same-test, of-both, cond-yes, cond-no}
 use Rattle.program.specs.Names.{Name, twoCharacters, userName}
 use Rattle.program.specs.Code.{key, nameOf}
 use Rattle.program.specs.Statements as Said
@@ -32,7 +32,7 @@ use Rattle.forms.specs.declared.Match.{Match}
 use Rattle.text.proofs.Filled.{goOn}
 use Rattle.text.proofs.Words.{Good, Goods, asked, asked-none, named, kept, spelled-so, variable-word}
 use Rattle.text.proofs.Signs.{operator-word, comparison-word}
-use Rattle.forms.proofs.Matching.{fill-stop}
+use Rattle.forms.proofs.Matching.{Uses, fill-stop}
 
 -- The slot of the paper with a number of the code.
 pub data Kind : ℕ → Slot → Type 0 where
@@ -73,12 +73,6 @@ abbrev pub whether : {A : Type 0} → Bool → A → List Paper.Token → Option
 whether b a ts = cond b (took a ts) none
 
 module _ {A : Type 0} where
-  pub cond-yes : (b : Bool) (x y : A) → b ≡ true → cond b x y ≡ x
-  cond-yes b x y e = rw e
-
-  pub cond-no : (b : Bool) (x y : A) → b ≡ false → cond b x y ≡ y
-  cond-no b x y e = rw e
-
   whether-same : (b c : Bool) {x y : A} {ts us : List Paper.Token} → b ≡ c → (c ≡ true → x ≡ y) → (c ≡ true → ts ≡ us) → whether b x ts ≡ whether c y us
   whether-same b true e f g = rw (e, f refl, g refl)
   whether-same b false e f g = rw e
@@ -245,24 +239,20 @@ operand-law ts g = ap (λ (o : Option (Form.Taken ℤ)). literalOr o (variable t
         ∙ ap (foundValue ts) (sym (operand-by (front ts) (front (drop 1 ts)) false e))
 
 -- An operand takes no more tokens than there are.
-used-cond : (b : Bool) (x y : Taken) (n : ℕ) → x .used ≤ n → y .used ≤ n → cond b x y .used ≤ n
-used-cond true x y n p q = p
-used-cond false x y n p q = q
-
 literal-inside : (ts : List Paper.Token) → litOf ts .used ≤ length ts
 unfolding literalBy
 literal-inside [] = omega arith
 literal-inside (t ∷ []) =
-    used-cond (pack t .digits) _ _ 1 (omega arith)
+    of-both (Uses 1) (pack t .digits) (omega arith)
     (rw (and-false (eqb (pack t .key) 45 && pack t .glued)) (omega arith))
 literal-inside (t ∷ u ∷ ts) =
-    used-cond (pack t .digits) _ _ _ (omega arith) (used-cond ((eqb (pack t .key) 45 && pack t .glued) && pack u .digits) _ _ _ (omega arith) (omega arith))
+    of-both (Uses _) (pack t .digits) (omega arith) (of-both (Uses _) ((eqb (pack t .key) 45 && pack t .glued) && pack u .digits) (omega arith) (omega arith))
 
 operand-inside : (ts : List Paper.Token) → opOf ts .used ≤ length ts
 unfolding operandBy variableBy
-operand-inside [] = rw (asked-none variableName variable-word) (used-cond (eqb (litOf [] .used) 0) _ _ 0 (omega arith) (literal-inside []))
+operand-inside [] = rw (asked-none variableName variable-word) (of-both (Uses 0) (eqb (litOf [] .used) 0) (omega arith) (literal-inside []))
 operand-inside (t ∷ ts) =
-    used-cond (eqb (litOf (t ∷ ts) .used) 0) _ _ _ (used-cond (variableName (nameOf (pack t .key))) _ _ _ (omega arith) (omega arith)) (literal-inside (t ∷ ts))
+    of-both (Uses _) (eqb (litOf (t ∷ ts) .used) 0) (of-both (Uses _) (variableName (nameOf (pack t .key))) (omega arith) (omega arith)) (literal-inside (t ∷ ts))
 
 -- A slot that takes these very characters.
 fixed-law : (n : ℕ) → 0 < n → (ts : List Paper.Token) (p : Parts) → Goods ts

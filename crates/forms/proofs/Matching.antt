@@ -1,7 +1,7 @@
 -- What the functions that match tokens with forms need of their values.
 -- Assumes nothing.
 use mathlib.Core.Path.{_≡_, refl, sym, ap, _∙_}
-use mathlib.Core.Bool.{Bool, true, false, cond, _&&_, _||_, not, or-true}
+use mathlib.Core.Bool.{Bool, true, false, _&&_, _||_, not, or-true}
 use mathlib.Core.List.{List, [], _∷_}
 use Prim.Native.Nat.{ℕ, zero, suc, _+_, _≤_, _<_}
 use native.Mathlib.Nat.{not-suc-le-zero, le-of-suc-le-suc}
@@ -13,7 +13,7 @@ use lib.ListN.{length, drop, getD, drop-of-length-le}
 use lib.Seq.{drop-cons}
 use Rattle.numbers.specs.Tests.{allOf}
 use Rattle.program.specs.Code.{key, nameOf}
-use Rattle.numbers.proofs.Truth.{both}
+use Rattle.numbers.proofs.Truth.{both, of-both, cond-yes, cond-no}
 use Rattle.text.specs.Forms.{variableName}
 use Rattle.text.specs.Code.{tokenAt}
 use Rattle.forms.specs.Code.{literalBy, variableBy, operandBy, slotBy, wordBy, fillBy, slotTable, slotsOf, foundBy, valueBy, keptBy}
@@ -30,41 +30,34 @@ pub operand-literal : (t u : Token) {l : Taken} → l ≡ literalBy t u → (l .
 unfolding operandBy
 operand-literal t u p e = let f : literalBy t u .used ≡ 0 → ⊥ = rw p at e in rw (ne-eqb _ _ f) p
 
--- It takes at most two tokens.
-used-cond : (t : Bool) (x y : Taken) → x .used ≤ 2 → y .used ≤ 2 → cond t x y .used ≤ 2
-used-cond true x y p q = p
-used-cond false x y p q = q
+-- So many tokens at most are taken; by an operand no more than two.
+abbrev pub Uses : ℕ → Taken → Type 0
+Uses n x = x .used ≤ n
 
 literal-used : (t u : Token) → literalBy t u .used ≤ 2
 unfolding literalBy
-literal-used t u = used-cond (t .digits) _ _ (omega arith) (used-cond ((eqb (t .key) 45 && t .glued) && u .digits) _ _ (omega arith) (omega arith))
+literal-used t u = of-both (Uses 2) (t .digits) (omega arith) (of-both (Uses 2) ((eqb (t .key) 45 && t .glued) && u .digits) (omega arith) (omega arith))
 
 operand-used : (t u : Token) → operandBy t u .used ≤ 2
 unfolding operandBy variableBy
-operand-used t u = used-cond (eqb (literalBy t u .used) 0) _ _ (used-cond (variableName (nameOf (t .key))) _ _ (omega arith) (omega arith)) (literal-used t u)
+operand-used t u = of-both (Uses 2) (eqb (literalBy t u .used) 0) (of-both (Uses 2) (variableName (nameOf (t .key))) (omega arith) (omega arith)) (literal-used t u)
 
 pub found-used : (slot : ℕ) (t u : Token) → foundBy slot t u .used ≤ 2
 unfolding foundBy
-found-used slot t u = used-cond (eqb slot 6) _ _ (literal-used t u) (operand-used t u)
-
-cond-true : (t : Bool) (x y : Match) → t ≡ true → cond t x y ≡ x
-cond-true t x y e = rw e
-
-cond-false : (t : Bool) (x y : Match) → t ≡ false → cond t x y ≡ y
-cond-false t x y e = rw e
+found-used slot t u = of-both (Uses 2) (eqb slot 6) (literal-used t u) (operand-used t u)
 
 -- The slots one after the other.
 module _ (ts : List Token) (m : Match) where
   pub fill-stop : (ss : List ℕ) → m .ok ≡ false → fillBy ss ts m ≡ m
   unfolding fillBy
   fill-stop [] e = refl
-  fill-stop (s ∷ ss) e = cond-true (eqb s 0 || not (m .ok)) _ _ (rw e (or-true (eqb s 0)))
+  fill-stop (s ∷ ss) e = cond-yes (eqb s 0 || not (m .ok)) _ _ (rw e (or-true (eqb s 0)))
 
   pub fill-over : (l : List ℕ) (k : ℕ) {s : ℕ} → k < length l → s ≡ getD l k 0 → (eqb s 0 || not (m .ok)) ≡ true → m ≡ fillBy (drop k l) ts m
   unfolding fillBy
   fill-over l k h p e =
       let f : (eqb (getD l k 0) 0 || not (m .ok)) ≡ true = rw p at e in
-      sym (ap (λ (x : List ℕ). fillBy x ts m) (drop-cons l k 0 h) ∙ cond-true (eqb (getD l k 0) 0 || not (m .ok)) _ _ f)
+      sym (ap (λ (x : List ℕ). fillBy x ts m) (drop-cons l k 0 h) ∙ cond-yes (eqb (getD l k 0) 0 || not (m .ok)) _ _ f)
 
   pub fill-more : (l : List ℕ) (k : ℕ) {s : ℕ} {t u : Token} {n : Match} → k < length l → s ≡ getD l k 0 → (eqb s 0 || not (m .ok)) ≡ false
       → t ≡ tokenAt ts (m .place) → u ≡ tokenAt ts (m .place + 1) → n ≡ slotBy m s t u
@@ -73,24 +66,20 @@ module _ (ts : List Token) (m : Match) where
   fill-more l k h p e q r f =
       let g : (eqb (getD l k 0) 0 || not (m .ok)) ≡ false = rw p at e in
       rw (add-one, f, p, q, r)
-      (sym (ap (λ (x : List ℕ). fillBy x ts m) (drop-cons l k 0 h) ∙ cond-false (eqb (getD l k 0) 0 || not (m .ok)) _ _ g))
-
-place-cond : (t : Bool) (x y : Match) (n : ℕ) → x .place ≤ n → y .place ≤ n → cond t x y .place ≤ n
-place-cond true x y n p q = p
-place-cond false x y n p q = q
-
-same-place : (t : Bool) (x y : Match) (n : ℕ) → x .place ≡ n → y .place ≡ n → cond t x y .place ≡ n
-same-place true x y n p q = p
-same-place false x y n p q = q
+      (sym (ap (λ (x : List ℕ). fillBy x ts m) (drop-cons l k 0 h) ∙ cond-no (eqb (getD l k 0) 0 || not (m .ok)) _ _ g))
 
 pub kept-place : (m : Match) (s k : ℕ) → keptBy m s k .place ≡ m .place
 unfolding keptBy
-kept-place m s k = same-place (eqb s 1 || eqb s 2) _ _ _ refl (same-place (eqb s 3) _ _ _ refl (same-place (eqb s 7) _ _ _ refl (same-place (eqb s 8) _ _ _ refl refl)))
+kept-place m s k = of-both Stays (eqb s 1 || eqb s 2) refl (of-both Stays (eqb s 3) refl (of-both Stays (eqb s 7) refl (of-both Stays (eqb s 8) refl refl)))
+  where
+    Stays : Match → Type 0
+    Stays x = x .place ≡ m .place
 
 pub slot-place : (m : Match) (s : ℕ) (t u : Token) {n : Match} → n ≡ slotBy m s t u → n .place ≤ m .place + 2
 unfolding slotBy valueBy wordBy
 slot-place m s t u f =
-    rw f (place-cond ((eqb s 4 || eqb s 5) || eqb s 6) _ _ _ (omega (arith, found-used s t u)) (omega (arith, kept-place m s (t .key))))
+    rw f
+    (of-both (λ (x : Match). x .place ≤ m .place + 2) ((eqb s 4 || eqb s 5) || eqb s 6) (omega (arith, found-used s t u)) (omega (arith, kept-place m s (t .key))))
 
 -- Six slots to a form, and none is left behind them.
 each-at : (P : List ℕ → Bool) (ls : List (List ℕ)) → T (allOf P ls) → (i : ℕ) → i < length ls → T (P (getD ls i []))

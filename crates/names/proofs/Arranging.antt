@@ -1,16 +1,15 @@
 -- The names of a text, entered line by line, and what their rows tell of it.
 -- Assumes nothing.
 use mathlib.Core.Path.{_≡_, refl, ap, _∙_}
-use mathlib.Core.Bool.{Bool, true, false, cond}
 use mathlib.Core.List.{List, [], _∷_, map}
 use Prim.Native.Nat.{ℕ, _+_, _-_, _≤_}
 use native.Mathlib.Numerals.{add-one}
 use native.Mathlib.Omega.{arith}
 use lib.Dec.{eqb}
 use lib.ListN.{length, take, drop, replicate, length-replicate}
+use Rattle.numbers.proofs.Truth.{of-both}
 use Rattle.numbers.proofs.Tests.{Each}
 use Rattle.program.specs.Names.{Name}
-use Rattle.program.specs.Code.{nameOf}
 use Rattle.program.proofs.Keys.{name-key, user-word}
 use Rattle.text.specs.Forms.{Line, Blank, Label, Declared, Acts}
 use Rattle.text.specs.Lines.{lines}
@@ -55,12 +54,10 @@ entered-by n c v (Acts s) rows f = refl
 
 pub entered-long : (n c v kind k : ℕ) (rows : List Row) → length (enteredBy n c v kind k rows) ≡ length rows
 unfolding enteredBy
-entered-long n c v kind k rows = pick (eqb kind 1) (eqb kind 2)
+entered-long n c v kind k rows = of-both Long (eqb kind 1) (enter-long rows _ _) (of-both Long (eqb kind 2) (enter-long rows _ _) refl)
   where
-    pick : (a b : Bool) → length (cond a (enter rows (nameOf k) (row 1 n c)) (cond b (enter rows (nameOf k) (row 2 n v)) rows)) ≡ length rows
-    pick true b = enter-long rows (nameOf k) (row 1 n c)
-    pick false true = enter-long rows (nameOf k) (row 2 n v)
-    pick false false = refl
+    Long : List Row → Type 0
+    Long z = length z ≡ length rows
 
 -- At the start of the line with this number: entering the lines from here on gives the whole.
 pub record Arranging (s : List ℕ) (rows : List Row) (line cells variables at : ℕ) : Type 0 where

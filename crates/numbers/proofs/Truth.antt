@@ -80,8 +80,19 @@ module _ {C : Type 0} (a b : ℕ) where
     tested true e = f (ltb-true a b e)
     tested false e = g (ltb-false a b e)
 
--- What holds of either side of a choice, each by its test.
+-- What holds of either side of a choice, each by its test; of both sides, whatever the test.
 module _ {A : Type 0} (P : A → Type 0) where
   pub chosen : (t : Bool) {x y : A} → (T t → P x) → (T (not t) → P y) → P (cond t x y)
   chosen true f g = f tt
   chosen false f g = g tt
+
+  pub of-both : (t : Bool) {x y : A} → P x → P y → P (cond t x y)
+  of-both t p q = chosen t (λ h. p) (λ h. q)
+
+-- A choice whose test is known.
+module _ {A : Type 0} where
+  pub cond-yes : (t : Bool) (x y : A) → t ≡ true → cond t x y ≡ x
+  cond-yes t x y e = rw e
+
+  pub cond-no : (t : Bool) (x y : A) → t ≡ false → cond t x y ≡ y
+  cond-no t x y e = rw e

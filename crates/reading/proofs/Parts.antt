@@ -9,7 +9,7 @@ use borrow.Author.Tests.{eqb-true, ne-eqb}
 use lib.Dec.{eqb}
 use Rattle.numbers.specs.Bytes.{number, ascii}
 use Rattle.numbers.specs.Tests.{eqList, numbered}
-use Rattle.numbers.proofs.Truth.{is-true, is-no, if-same}
+use Rattle.numbers.proofs.Truth.{is-true, is-no, if-same, cond-no}
 use Rattle.program.specs.Names.{reserved, mnemonics, variableNames, paperVariable}
 use Rattle.program.specs.Code.{key, nameOf}
 use Rattle.program.proofs.Keys.{key-name}
@@ -20,7 +20,6 @@ use Rattle.reading.specs.Code.{sayOf, anyBig, actsBy, declaresBy, partsB
 use Rattle.text.specs.declared.tokens.Tokens.{Tokens}
 use Rattle.forms.specs.declared.Match.{Match}
 use Rattle.reading.specs.declared.Reading.{Reading}
-use Rattle.forms.proofs.Filling.{cond-no}
 use Rattle.forms.proofs.Choosing.{form-below, only-form}
 
 -- The name of a key.

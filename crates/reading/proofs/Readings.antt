@@ -11,6 +11,7 @@ use lib.Dec.{eqb, leb}
 use lib.ListN.{length, take, drop}
 use Rattle.numbers.specs.Tests.{allOf, anyOf, eqList, lowest}
 use Rattle.numbers.specs.Bytes.{ascii}
+use Rattle.numbers.proofs.Truth.{cond-yes, cond-no}
 use Rattle.program.specs.Names.{reserved}
 use Rattle.program.specs.Code.{nameOf}
 use Rattle.text.specs.Tokens as Paper
@@ -26,7 +27,7 @@ use Rattle.forms.specs.declared.Match.{Match}
 use Rattle.reading.specs.declared.Reading.{Reading}
 use Rattle.text.proofs.Scanning.{code-part}
 use Rattle.text.proofs.Words.{Goods, line-good}
-use Rattle.forms.proofs.Filling.{front, finish, fill-law, cond-yes, cond-no}
+use Rattle.forms.proofs.Filling.{front, finish, fill-law}
 use Rattle.text.proofs.Filled.{HoldsAt, Filled, filled}
 use Rattle.reading.proofs.Rows.{Rows, last, next, rows, lineReading}
 use Rattle.forms.proofs.Packed.{few-count, few-read, many-count, too-many}

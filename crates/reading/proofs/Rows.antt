@@ -7,7 +7,7 @@ use Prim.Native.Nat.{ℕ}
 use lib.IntN.{ℤ, pos}
 use Rattle.numbers.specs.Bytes.{ascii, number}
 use Rattle.numbers.specs.Tests.{anyOf}
-use Rattle.numbers.proofs.Truth.{neither}
+use Rattle.numbers.proofs.Truth.{neither, cond-yes, cond-no}
 use Rattle.program.specs.Names.{Name, reserved}
 use Rattle.program.specs.Code.{key, nameOf}
 use Rattle.program.specs.Cells as Cells
@@ -23,7 +23,7 @@ use Rattle.forms.specs.Code.{slotTable, slotsOf}
 use Rattle.reading.specs.Code.{formNumbers, smallOf, operandOf, cellBy, selectorBy, leftBy, rightBy, targetBy, sayTable, sayOf, actsBy, declaresBy, anyBig, partsBy, readParts, readingWith, faulty, noCell, saidBy}
 use Rattle.reading.specs.declared.Reading.{Reading}
 use Rattle.text.proofs.Filled.{Filled, done, step, nothing, declared, aimed, wrote, onTheLeft, onTheRight, started, operated, compares, Sound}
-use Rattle.forms.proofs.Filling.{new, target, written, left, right, start, operator, comparison, fixed, Slots, end, rest, slot, cond-yes, cond-no}
+use Rattle.forms.proofs.Filling.{new, target, written, left, right, start, operator, comparison, fixed, Slots, end, rest, slot}
 
 -- What a line that fills a form gives to read: a literal that is too big comes first, then a reserved name.
 unfoldable pub lineReading : Line → Reading

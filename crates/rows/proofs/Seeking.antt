@@ -11,7 +11,7 @@ use lib.Dec.{T, eqb, ltb}
 use lib.ListN.{length, getD, set, replicate, length-replicate, length-set, getD-replicate, List·getD-eq-default}
 use lib.Seq.{set-out, set-getD, getD-set-same, getD-set-other}
 use Rattle.numbers.specs.Tests.{eqList, anyOf}
-use Rattle.numbers.proofs.Truth.{is-true, true-is, if-below}
+use Rattle.numbers.proofs.Truth.{is-true, true-is, if-below, of-both}
 use Rattle.numbers.proofs.Tests.{Each, eqList-refl, eqList-eq}
 use Rattle.program.specs.Names.{Name, paperVariable, twoCharacters, userName}
 use Rattle.program.proofs.Keys.{user-two, user-no-paper}
@@ -54,11 +54,9 @@ module _ (rows : List Row) (long : length rows ≡ 936) (v w : Name) (t : T (two
   enter-at : (b : Bool) → eqList w v ≡ b → rowAt (enter rows v r) w ≡ cond b (kept (rowAt rows w) r) (rowAt rows w)
   unfolding enter rowAt
   enter-at true e = rw (eqList-eq w v (true-is (eqList w v) e)) entered-own
-  enter-at false e = other (ltb 0 (kind (rowAt rows v)))
-    where
-      other : (b : Bool) → getD (cond b rows (set rows (rowOf v) r)) (rowOf w) noRow ≡ getD rows (rowOf w) noRow
-      other true = refl
-      other false = getD-set-other rows (rowOf v) (rowOf w) r noRow (λ h. rows-apart v w t e (sym h))
+  enter-at false e =
+      of-both (λ (z : List Row). getD z (rowOf w) noRow ≡ getD rows (rowOf w) noRow) (ltb 0 (kind (rowAt rows v))) refl
+      (getD-set-other rows (rowOf v) (rowOf w) r noRow (λ h. rows-apart v w t e (sym h)))
 
 -- A place that a list has holds the same whatever stands for those past the end.
 within : (rows : List Row) (i : ℕ) (d e : Row) → i < length rows → getD rows i d ≡ getD rows i e
@@ -77,11 +75,7 @@ module _ (rows : List Row) (w : Name) {i : ℕ} (e : i ≡ rowOf w) where
   module _ (r : Row) where
     pub enter-past : length rows ≤ i → rows ≡ enter rows w r
     unfolding enter
-    enter-past h = pick (ltb 0 (kind (rowAt rows w)))
-      where
-        pick : (b : Bool) → rows ≡ cond b rows (set rows (rowOf w) r)
-        pick true = refl
-        pick false = sym (set-out rows (rowOf w) r (omega arith))
+    enter-past h = of-both (λ (z : List Row). rows ≡ z) (ltb 0 (kind (rowAt rows w))) refl (sym (set-out rows (rowOf w) r (omega arith)))
 
     pub enter-there : (d : Row) → i < length rows → 0 < kind (getD rows i d) → rows ≡ enter rows w r
     unfolding enter
@@ -94,11 +88,7 @@ module _ (rows : List Row) (w : Name) {i : ℕ} (e : i ≡ rowOf w) where
 -- The arrangement keeps its length.
 pub enter-long : (rows : List Row) (w : Name) (r : Row) → length (enter rows w r) ≡ length rows
 unfolding enter
-enter-long rows w r = pick (ltb 0 (kind (rowAt rows w)))
-  where
-    pick : (b : Bool) → length (cond b rows (set rows (rowOf w) r)) ≡ length rows
-    pick true = refl
-    pick false = length-set rows (rowOf w) r
+enter-long rows w r = of-both (λ (z : List Row). length z ≡ length rows) (ltb 0 (kind (rowAt rows w))) refl (length-set rows (rowOf w) r)
 
 entered-long : (n cells variables : ℕ) (x : Line) (rows : List Row) → length (entered n cells variables x rows) ≡ length rows
 unfolding entered
@@ -139,11 +129,7 @@ module _ (w : Name) where
   looked-from : (xs : List Line) (n c v : ℕ) (rows : List Row) → Each Spelt xs → length rows ≡ 936
       → rowAt (arrangedFrom n c v xs rows) w ≡ kept (rowAt rows w) (seekFrom (rowAt rows w) w n c v xs)
   unfolding arrangedFrom seekFrom kept
-  looked-from [] n c v rows t long = same (ltb 0 (kind (rowAt rows w)))
-    where
-      same : (b : Bool) → rowAt rows w ≡ cond b (rowAt rows w) (rowAt rows w)
-      same true = refl
-      same false = refl
+  looked-from [] n c v rows t long = of-both (λ (z : Row). rowAt rows w ≡ z) (ltb 0 (kind (rowAt rows w))) refl refl
   looked-from (x ∷ xs) n c v rows t long =
       looked-from xs (suc n) (plus (makesCell x) c) (plus (makesVariable x) v) (entered n c v x rows) (t .1) (entered-long n c v x rows ∙ long)
       ∙ pick (declaresIt w x) refl (entered-at n c v x rows w (t .0) long)

@@ -12,6 +12,7 @@ use lib.Dec.{eqb, leb, ltb}
 use lib.ListN.{length, take, drop, getD, set, drop-of-length-le}
 use lib.Seq.{drop-cons, getD-drop}
 use Rattle.numbers.specs.Tests.{allOf}
+use Rattle.numbers.proofs.Truth.{of-both}
 use Rattle.program.specs.Names.{digit}
 use Rattle.text.specs.Tokens.{printable, uncommented}
 use Rattle.text.specs.Code.{Room, moreDigits, valueWith, word, keyWith, grown, tokenOf, ends, noWord, noTokens, tokensWith, pushed, scan}
@@ -118,11 +119,9 @@ pub scan-full : (ts : Tokens) (w : Word) (l : List ℕ) → 9 ≤ ts .count → 
 unfolding scan
 scan-full ts w [] h = refl
 scan-full ts w (c ∷ cs) h =
-    pick (ends c (getD cs 0 32)) (ap (λ (us : Tokens). scan us noWord cs) (push-none ts _ h) ∙ scan-full ts noWord cs h) (scan-full ts (grown w c) cs h)
-  where
-    pick : (b : Bool) {x y : Tokens} → x ≡ ts → y ≡ ts → cond b x y ≡ ts
-    pick true p q = p
-    pick false p q = q
+    of-both (λ (us : Tokens). us ≡ ts) (ends c (getD cs 0 32))
+    (ap (λ (us : Tokens). scan us noWord cs) (push-none ts _ h) ∙ scan-full ts noWord cs h)
+    (scan-full ts (grown w c) cs h)
 
 -- The bytes that a line may hold, one after the other.
 module _ (l : List ℕ) (i : ℕ) where
