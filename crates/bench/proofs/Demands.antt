@@ -21,7 +21,7 @@ use Rattle.translation.specs.Images.{image, accepted}
 use Rattle.events.proofs.Scripts.{bad-events}
 use Rattle.refusals.proofs.Lowest.{lowest-range, lowest-exactly, lowest-zero, first-exactly}
 use Rattle.refusals.proofs.First.{first-exactly-at, first-none, Given, first-given}
-use Rattle.listing.specs.Listing.{listing}
+use Rattle.printing.specs.Listing.{listing}
 use Rattle.listing.proofs.Back.{listing-accepted}
 use Rattle.listing.proofs.Image.{listing-image}
 use Rattle.agreement.proofs.Checked.{image-checked}

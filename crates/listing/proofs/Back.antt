@@ -17,7 +17,7 @@ use Rattle.text.specs.Faults.{undeclared, readOnlyWritten, fault, textFaults, f
 use Rattle.image.specs.Layout.{cellCount, labelCount, variableCount, labelTarget}
 use Rattle.image.specs.Check.{checked}
 use Rattle.translation.specs.Images as I
-use Rattle.listing.specs.Listing.{listing}
+use Rattle.printing.specs.Listing.{listing}
 use Rattle.listing.specs.Listed.{variableSays, labelSays, labelsSay, cellSays, listedLines}
 use Rattle.listing.proofs.Lists.{numbers, none-listed}
 use Rattle.listing.proofs.Accepted.{Accepted, accepted}

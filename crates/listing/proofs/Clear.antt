@@ -14,7 +14,7 @@ use Rattle.text.specs.Forms.{Line, Blank, Label, Declared, Acts, reading}
 use Rattle.text.specs.Faults.{longLine, badForm, bigLiteral, reservedName, heard, said}
 use Rattle.image.specs.Layout.{cellCount, labelCount, variableCount, labelPlace, labelTarget, nameAt}
 use Rattle.image.specs.Check.{checked}
-use Rattle.listing.specs.Listing.{listing}
+use Rattle.printing.specs.Listing.{listing}
 use Rattle.listing.specs.Listed.{variableSays, labelSays, labelsSay, cellSays, listedLines}
 use Rattle.listing.proofs.Said.{listing-said}
 

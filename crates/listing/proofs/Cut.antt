@@ -8,7 +8,7 @@ use lib.Dec.{T, eqb}
 use Rattle.numbers.specs.Tests.{allOf}
 use Rattle.numbers.proofs.Truth.{both, is-false}
 use Rattle.text.specs.Lines.{ontoFirstLine, lines}
-use Rattle.listing.specs.Listing.{line}
+use Rattle.printing.specs.Listing.{line}
 
 -- A byte that neither ends a line nor is dropped at its end.
 abbrev pub inLine : ℕ → Bool

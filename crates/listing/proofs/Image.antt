@@ -10,7 +10,7 @@ use Rattle.text.specs.Forms.{Line}
 use Rattle.image.specs.Layout.{cellBytes, labelBytes, cellCount, labelCount, variableCount, labelPlace, variablePlace}
 use Rattle.image.specs.Check.{checked}
 use Rattle.translation.specs.Images.{cellPart, labelPart, variablePart, imageOf, image}
-use Rattle.listing.specs.Listing.{listing}
+use Rattle.printing.specs.Listing.{listing}
 use Rattle.listing.specs.Listed.{variableSays, listedLines}
 use Rattle.listing.proofs.Lists.{flat-none}
 use Rattle.listing.proofs.Accepted.{Accepted, accepted}

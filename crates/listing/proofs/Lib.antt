@@ -24,4 +24,3 @@ pub mod Pieces
 pub mod Image
 pub mod Clean
 pub mod Back
-pub mod Keys

@@ -20,7 +20,7 @@ use Rattle.program.specs.Variables.{inRange, literals}
 use Rattle.text.specs.Tokens.{Token, tokens, joins, printable}
 use Rattle.text.proofs.Packing.{decimal-snoc}
 use Rattle.text.specs.Forms.{digits, decimal, literal, took}
-use Rattle.listing.specs.Listing.{printed, width, plain}
+use Rattle.printing.specs.Listing.{printed, width, plain}
 use Rattle.listing.proofs.Tokens.{token, follows, Stops, fine, tokens-word, tokens-sign, word-is-not, word-fine}
 
 pub printed-length : (w n : ℕ) → length (printed w n) ≡ w

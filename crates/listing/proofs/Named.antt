@@ -19,7 +19,7 @@ use Rattle.program.proofs.Statements.{Refers, refers-then}
 use Rattle.text.specs.Forms.{Line}
 use Rattle.text.specs.Faults.{firstMakes, makesLabel, makesVariable, unknownVariable, unknownValue, unknownIn, undeclared, readOnlyWritten, placeOf, numberOf}
 use Rattle.image.specs.Layout.{cellCount, labelCount, variableCount, cellAt, labelTarget}
-use Rattle.listing.specs.Listing.{variableName, labelName}
+use Rattle.printing.specs.Listing.{variableName, labelName}
 use Rattle.listing.specs.Listed.{valueNamed, conditionNamed, statementNamed, listedLines}
 use Rattle.listing.proofs.Accepted.{Accepted}
 use Rattle.listing.proofs.Recorded.{Recorded, nameOfVariable}

@@ -21,7 +21,7 @@ use Rattle.image.specs.Layout.{cellCount, labelCount, variableCount, labelTarge
 use Rattle.numbers.proofs.Tests.{all-below, eqList-refl, eqList-eq, first-found, first-passes}
 use Rattle.numbers.proofs.Truth.{is-true, is-no, left-of}
 use Rattle.program.proofs.Ranges.{by-present}
-use Rattle.listing.specs.Listing.{variableName, labelName}
+use Rattle.printing.specs.Listing.{variableName, labelName}
 use Rattle.listing.specs.Listed.{variableSays, labelSays, labelsSay, cellSays, listedLines}
 use Rattle.listing.proofs.Lists.{numbers, any-flat, any-listed, none-listed}
 use Rattle.listing.proofs.Accepted.{Accepted}

@@ -7,7 +7,7 @@ use Rattle.numbers.proofs.Tests.{Each, each-map}
 use Rattle.program.specs.Names.{Name}
 use Rattle.program.specs.Statements.{Value, Always, Compare, Statement, Set, SetWith, IC, DC, BR, CL, RT, E, H, Hold, OE, Disarm, MA, MR, SL, PR, Concerns, concern, concerns, compared, operands, writes, targets, isHold}
 use Rattle.program.proofs.Statements.{Refers}
-use Rattle.listing.specs.Listing.{variableName, labelName}
+use Rattle.printing.specs.Listing.{variableName, labelName}
 use Rattle.listing.specs.Listed.{valueNamed, conditionNamed, statementNamed}
 
 module _ (s : List ℕ) where

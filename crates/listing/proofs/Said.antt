@@ -17,7 +17,7 @@ use Rattle.text.specs.Forms.{Line, Label, Declared, Acts}
 use Rattle.text.specs.Faults.{heard, said}
 use Rattle.image.specs.Layout.{cellCount, labelCount, variableCount, cellAt, labelPlace, labelTarget, variablePlace, startValue, nameAt}
 use Rattle.image.specs.Check.{checked}
-use Rattle.listing.specs.Listing.{plain, valueText, conditionText, statementText, line, variableLine, labelLine, labelLines, cellLines, listing}
+use Rattle.printing.specs.Listing.{plain, valueText, conditionText, statementText, line, variableLine, labelLine, labelLines, cellLines, listing}
 use Rattle.listing.specs.Listed.{valueNamed, conditionNamed, statementNamed, variableSays, labelSays, labelsSay, cellSays, listedLines}
 use Rattle.listing.proofs.Cut.{lines-line}
 use Rattle.listing.proofs.Tokens.{fine-in-line}

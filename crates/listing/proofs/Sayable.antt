@@ -20,7 +20,7 @@ use Rattle.program.proofs.Statements.{refers-then}
 use Rattle.text.specs.Forms as F
 use Rattle.image.specs.Layout.{labelCount, variableCount, cellAt, labelTarget, variablePlace, nameAt}
 use Rattle.image.specs.Check.{layouts, fits}
-use Rattle.listing.specs.Listing.{variableName, labelName}
+use Rattle.printing.specs.Listing.{variableName, labelName}
 use Rattle.listing.specs.Listed.{valueNamed, statementNamed}
 use Rattle.listing.proofs.Values.{Sound}
 use Rattle.listing.proofs.Told.{Sayable}

@@ -16,7 +16,7 @@ use Rattle.text.specs.Forms.{Label, Acts}
 use Rattle.text.specs.Faults.{overlong}
 use Rattle.image.specs.Layout.{cellCount, labelCount, variableCount, cellAt, labelPlace, labelTarget, nameAt}
 use Rattle.image.specs.Check.{checked}
-use Rattle.listing.specs.Listing.{listing}
+use Rattle.printing.specs.Listing.{listing}
 use Rattle.listing.specs.Listed.{statementNamed, variableSays, labelSays, labelsSay, cellSays, listedLines}
 use Rattle.listing.proofs.Accepted.{accepted}
 use Rattle.listing.proofs.Said.{says-listing}

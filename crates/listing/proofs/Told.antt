@@ -22,7 +22,7 @@ use Rattle.program.proofs.Statements.{Refers}
 use Rattle.text.specs.Tokens.{Token, tokens, joins, ontoFirstToken, printable, uncommented}
 use Rattle.text.specs.Forms.{Line, Label, Declared, Acts, operatorSign, comparisonSign, variableName, statement, reading}
 use Rattle.text.specs.Faults.{longLine, badForm, tooBig, bigValue, bigIn, bigLiteral, declares, reservedName, heard}
-use Rattle.listing.specs.Listing.{plain}
+use Rattle.printing.specs.Listing.{plain}
 use Rattle.listing.proofs.Tokens.{token, follows, Stops, fine, fine-printable, fine-uncommented}
 use Rattle.listing.proofs.Values.{spelt, spelling, Spelt, user-free, user-spelt, variable-spelt, tokens-name, name-fine, valueTold, Sound, valueTokens, tokens-value, value-fine, value-length, Starts, value-starts}
 use Rattle.listing.proofs.Signs.{Sign, equals, comma, operator-sign, comparison-sign}

@@ -20,7 +20,7 @@ use Rattle.numbers.proofs.Tests.{eqList-eq, all-then, numbered-all}
 use Rattle.program.proofs.Keys.{user-two}
 use Rattle.text.specs.Tokens.{Token, tokens}
 use Rattle.text.specs.Forms.{digits, literal, variableName, variable, operand, took, put, word}
-use Rattle.listing.specs.Listing.{plain}
+use Rattle.printing.specs.Listing.{plain}
 use Rattle.listing.proofs.Tokens.{token, follows, Stops, fine, tokens-word, word-is-not, word-fine}
 use Rattle.listing.proofs.Literals.{literalTokens, literal-read, tokens-literal, literal-fine, literal-length, figures, figures-word, figures-some}
 

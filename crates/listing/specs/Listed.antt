@@ -10,7 +10,7 @@ use Rattle.program.specs.Statements.{Value, Literal, Variable, Condition, Alway
 use Rattle.program.specs.Cells.{statementOf}
 use Rattle.text.specs.Forms.{Line, Label, Declared, Acts}
 use Rattle.image.specs.Layout.{cellCount, labelCount, variableCount, cellAt, labelPlace, labelTarget, variablePlace, startValue, nameAt}
-use Rattle.listing.specs.Listing.{variableName, labelName}
+use Rattle.printing.specs.Listing.{variableName, labelName}
 
 -- An operand with the name of its variable in place of the number.
 unfoldable pub valueNamed : List ℕ → Value ℕ → Value Name

@@ -17,7 +17,7 @@ const STILL: u8 = 0;
 
 // A variable by its name, the language's or the user's as the image has it, and its value.
 fn value(mut line: Line, image: &[u8], number: u8, value: i32) -> Line {
-    line = crate::key(line, listing::variable_key(image, number));
+    line = crate::key(line, printing::variable_key(image, number));
     line = line.byte(b'=');
     line.signed(value)
 }

@@ -134,7 +134,7 @@ fn source(mut line: Line, image: &[u8], kind: u8, number: u8) -> Line {
         return line;
     }
     if kind == Record::PRINTED {
-        line = crate::key(line, listing::variable_key(image, number));
+        line = crate::key(line, printing::variable_key(image, number));
         return crate::part(line, words::EQUALS);
     }
     line = line.number(number as u64);

@@ -3,9 +3,9 @@
 use mathlib.Core.Path.{_∙_}
 use borrow.Author.Needs.{needs}
 use Rattle.image.specs.Layout.{variablePlace}
-use Rattle.listing.proofs.Keys.{paper-key, record-key}
-use Rattle.listing.proofs.variable_key.Statement.{statement}
-use Rattle.listing.proofs.variable_key.Tie as tie
+use Rattle.printing.proofs.Keys.{paper-key, record-key}
+use Rattle.printing.proofs.variable_key.Statement.{statement}
+use Rattle.printing.proofs.variable_key.Tie as tie
 
 returns : tie.Need-returns
 returns c = c .key .ensures ∙ paper-key _ _ (c .before .if1 .taken)

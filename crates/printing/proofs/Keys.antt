@@ -9,7 +9,7 @@ use Rattle.numbers.specs.Bytes.{field}
 use Rattle.program.specs.Names.{variableNames}
 use Rattle.program.specs.Code.{key}
 use Rattle.image.specs.Layout.{variablePlace, nameAt}
-use Rattle.listing.specs.Listing.{variableName}
+use Rattle.printing.specs.Listing.{variableName}
 
 pub paper-key : (s : List ℕ) (v : ℕ) → v < 32 → key (getD variableNames (v - 1) []) ≡ key (variableName s v)
 unfolding variableName

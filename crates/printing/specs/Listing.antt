@@ -1,6 +1,4 @@
--- A text for every accepted image: demand 2 asks that there is one.
--- Variables are declared on top. A label stands on the line above the cell that it leads to, or last; of several there, a jump names the first.
--- Numbers have no needless zeros, and every line ends with LF.
+-- Document 02, Q-1: the listing of an image. It is also the text that demand 2 asks for every accepted image.
 -- Assumes nothing.
 use mathlib.Core.Bool.{cond}
 use mathlib.Core.List.{List, [], _∷_, _++_, flatMap}
@@ -16,24 +14,25 @@ use Rattle.program.specs.Cells.{statementOf}
 use Rattle.text.specs.Forms.{operatorSign, comparisonSign}
 use Rattle.image.specs.Layout.{cellCount, labelCount, variableCount, cellAt, labelPlace, labelTarget, variablePlace, startValue, nameAt}
 
--- The number n in w decimal digits.
+-- Q-1 2, plain decimal: the number n in w decimal digits.
 unfoldable pub printed : ℕ → ℕ → List ℕ
 printed zero n = []
 printed (suc w) n = printed w (n / 10) ++ ((48 + n % 10) ∷ [])
 
--- How many digits a literal has without leading zeros: at most ten.
+-- Q-1 2: how many digits a literal has without leading zeros: at most ten.
 unfoldable pub width : ℕ → ℕ
 width n = suc (firstBelow 9 (λ k. ltb n (10 ^ suc k)))
 
+-- Q-1 2: a literal in plain decimal, its minus right before its digits.
 unfoldable pub plain : ℤ → List ℕ
 plain (pos n) = printed (width n) n
 plain (negsuc n) = ascii "-" ++ printed (width (suc n)) (suc n)
 
--- The name of a variable, the paper's or that of its record.
+-- Q-1 2: a variable goes by its name, the paper's or that of its record.
 unfoldable pub variableName : List ℕ → ℕ → Name
 variableName s v = cond (ltb v 32) (getD variableNames (v - 1) []) (nameAt s (variablePlace s (v - 32)))
 
--- The first label with this target.
+-- Q-1 2, a target by its first label: the name of the first label record that has it.
 unfoldable pub labelName : List ℕ → ℕ → Name
 labelName s target = nameAt s (labelPlace s (firstBelow (labelCount s) (λ k. eqb (labelTarget s k) target)))
 
@@ -45,7 +44,7 @@ unfoldable pub conditionText : List ℕ → Condition ℕ → List ℕ
 conditionText s Always = []
 conditionText s (Compare x c y) = ascii "," ++ (valueText s x ++ (comparisonSign c ++ valueText s y))
 
--- One statement. Its only space stands between the mnemonic and what follows.
+-- Q-1 2, one space after a mnemonic with operands, no other: each statement.
 unfoldable pub statementText : List ℕ → Statement ℕ → List ℕ
 statementText s (Set v x) = variableName s v ++ (ascii "=" ++ valueText s x)
 statementText s (SetWith v x o y) = variableName s v ++ (ascii "=" ++ (valueText s x ++ (operatorSign o ++ valueText s y)))
@@ -64,24 +63,26 @@ statementText s (MR x) = ascii "MR " ++ valueText s x
 statementText s (SL x) = ascii "SL " ++ valueText s x
 statementText s (PR x) = ascii "PR " ++ valueText s x
 
--- A line with its LF.
+-- Q-1 2, LF endings: every line has one, the last too.
 unfoldable pub line : List ℕ → List ℕ
 line l = l ++ (10 ∷ [])
 
+-- Q-1 2, `VA n=literal` always: the line of a variable record, whatever its start value.
 unfoldable pub variableLine : List ℕ → ℕ → List ℕ
 variableLine s k = line (ascii "VA " ++ (nameAt s (variablePlace s k) ++ (ascii "=" ++ plain (startValue s k))))
 
--- The labels of one target, in order of declaration.
+-- Q-1 2, labels in declaration order: the line of label record k where this is its target; those of all records, in their order.
 unfoldable pub labelLine : List ℕ → ℕ → ℕ → List ℕ
 labelLine s target k = cond (eqb (labelTarget s k) target) (line (ascii "LB " ++ nameAt s (labelPlace s k))) []
 
 unfoldable pub labelLines : List ℕ → ℕ → List ℕ
 labelLines s target = flatMap (labelLine s target) (listed 0 (labelCount s) (λ k. k))
 
+-- Q-1 2, per cell one statement, each label just before its target cell.
 unfoldable pub cellLines : List ℕ → ℕ → List ℕ
 cellLines s k = labelLines s k ++ line (statementText s (statementOf (cellAt s k)))
 
--- The listing of an image.
+-- Q-1 2, all VA first: the variables in declaration order, the cells with their labels, and last the labels behind the last cell.
 unfoldable pub listing : List ℕ → List ℕ
 listing s =
     flatMap (variableLine s) (listed 0 (variableCount s) (λ k. k))
