@@ -1,4 +1,4 @@
-/* Translator, checker and runner in plain C, for comparing times. Names are two bytes as a number, the first character the low one. */
+/* Translator, checker, lister and runner in plain C, for comparing times. Names are two bytes as a number, the first character the low one. */
 #include "bench.h"
 
 enum { BLANK, LABEL, DECLARED, ACTS };
@@ -410,6 +410,99 @@ u8 check(const u8 *image, u32 size) {
     for (u32 k = 0; k < p.cell_count; k++)
         if (!good_cell(&p, image + 16 * k)) return 24;
     return bad_records(&p) ? 25 : 0;
+}
+
+/* Listing */
+
+enum { LONGEST = 9472 };
+
+/* A page as it is filled, the parts of the image, and the first label of each target. */
+struct printer { u8 *at; struct parts parts; u16 firsts[257]; };
+
+static void put(struct printer *o, u32 byte) { *o->at++ = byte; }
+
+static void put_name(struct printer *o, u32 key) {
+    put(o, key);
+    if (255 < key) put(o, key >> 8);
+}
+
+static void put_literal(struct printer *o, i32 value) {
+    u8 digits[10];
+    u32 n = value < 0 ? -(u32)value : (u32)value, count = 0;
+    if (value < 0) put(o, '-');
+    do digits[count++] = '0' + n % 10; while (n /= 10);
+    while (count) put(o, digits[--count]);
+}
+
+static void put_variable(struct printer *o, u32 v) {
+    put_name(o, read2(v < USER ? (const u8 *)variables + 2 * (v - 1) : o->parts.variables + 8 * (v - USER)));
+}
+
+static void put_operand(struct printer *o, u8 shape, u32 n) {
+    if (shape == LITERAL) put_literal(o, n);
+    if (shape == VARIABLE) put_variable(o, n);
+}
+
+static void put_labels(struct printer *o, u32 *label, u32 cell) {
+    for (; *label < o->parts.label_count && read2(o->parts.labels + 4 * *label + 2) == cell; (*label)++) {
+        put_name(o, KEY('L', 'B'));
+        put(o, ' ');
+        put_name(o, read2(o->parts.labels + 4 * *label));
+        put(o, '\n');
+    }
+}
+
+static void put_statement(struct printer *o, const u8 *c) {
+    static const u8 comparisons[] = "=\0<>< <=> >=";
+    u32 target = read2(c + 12), jumps = c[0] == BR || c[0] == CL;
+    if (c[0] <= SET_WITH) {
+        put_variable(o, c[1]);
+        put(o, '=');
+    } else {
+        put_name(o, read2((const u8 *)mnemonics + 2 * (c[0] - 1)));
+        if (c[1] || c[3] || jumps || c[0] == OE) put(o, ' ');
+        if (c[1]) put_variable(o, c[1]);
+        if (c[0] == OE && target == NONE) put(o, '0');
+        else if (jumps || c[0] == OE) put_name(o, o->firsts[target]);
+        if (jumps && c[2]) put(o, ',');
+    }
+    put_operand(o, c[3] % 4, read4(c + 4));
+    if (c[0] == SET_WITH) put(o, "+-*/&|^"[c[2] - 1]);
+    if (jumps && c[2]) {
+        put(o, comparisons[2 * c[2] - 2]);
+        if (' ' < comparisons[2 * c[2] - 1]) put(o, comparisons[2 * c[2] - 1]);
+    }
+    put_operand(o, c[3] / 4, read4(c + 8));
+    put(o, '\n');
+}
+
+struct listed list(const u8 *image, u32 size, u8 *text, u32 room) {
+    struct listed l = { 0 };
+    struct printer o;
+    u8 page[LONGEST];
+    u32 label = 0;
+    l.number = check(image, size);
+    if (l.number) return l;
+    o.at = page;
+    o.parts = parts_of(image, size);
+    for (u32 k = o.parts.label_count; k--;) o.firsts[read2(o.parts.labels + 4 * k + 2)] = read2(o.parts.labels + 4 * k);
+    for (u32 k = 0; k < o.parts.variable_count; k++) {
+        put_name(&o, KEY('V', 'A'));
+        put(&o, ' ');
+        put_variable(&o, USER + k);
+        put(&o, '=');
+        put_literal(&o, read4(o.parts.variables + 8 * k + 4));
+        put(&o, '\n');
+    }
+    for (u32 k = 0; k < o.parts.cell_count; k++) {
+        put_labels(&o, &label, k);
+        put_statement(&o, image + 16 * k);
+    }
+    put_labels(&o, &label, o.parts.cell_count);
+    if (room < o.at - page) { l.number = 11; return l; }
+    l.length = o.at - page;
+    for (u32 i = 0; i < l.length; i++) text[i] = page[i];
+    return l;
 }
 
 /* Running */

@@ -1,4 +1,4 @@
-/* The three calls in plain C, and their answers. */
+/* The four calls in plain C, and their answers. */
 typedef unsigned char u8;
 typedef unsigned short u16;
 typedef unsigned int u32;
@@ -7,6 +7,8 @@ typedef int i32;
 typedef long long i64;
 
 struct translated { u8 number; u32 line, length; };
+
+struct listed { u8 number; u32 length; };
 
 struct state {
     i32 variables[64];
@@ -22,4 +24,5 @@ struct ran { u8 number; u32 index; u8 reason; u32 turns, records; struct state s
 
 struct translated translate(const u8 *text, u32 size, u8 *image, u32 room);
 u8 check(const u8 *image, u32 size);
+struct listed list(const u8 *image, u32 size, u8 *text, u32 room);
 struct ran run(const u8 *image, u32 size, const u8 *events, u32 event_bytes, u32 budget, u8 *records, u32 room);

@@ -1,11 +1,11 @@
 /* Repeats one of the calls and prints a checksum: the same work, and the same line, as the program `speed`. */
 #include "bench.h"
 
-enum { TEXT = 16384, TURNS = 4096, EVENT = 12, BLOCKS = 32, CELL_LINE = 37, NAME_LINE = 36 };
+enum { TEXT = 16384, LISTING = 9472, TURNS = 4096, EVENT = 12, BLOCKS = 32, CELL_LINE = 37, NAME_LINE = 36 };
 
 long write(int file, const void *bytes, unsigned long count);
 
-static u8 text[TEXT], image[5008], events[EVENT * TURNS], records[EVENT * TURNS];
+static u8 text[TEXT], image[5008], listing[LISTING], events[EVENT * TURNS], records[EVENT * TURNS];
 
 /* A line of this width: a statement with one name in it, and a comment. */
 static u8 *put_line(u8 *at, const char *before, char letter, u32 number, const char *after, u32 width) {
@@ -108,6 +108,15 @@ static u64 check_times(u32 n) {
     return mixed_bytes(sum, image, sizeof image);
 }
 
+static u64 list_times(u32 n) {
+    u64 sum = 1;
+    while (n--) {
+        struct listed l = list(image, sizeof image, listing, sizeof listing);
+        sum = mixed(mixed(sum, l.number), l.length);
+    }
+    return mixed_bytes(sum, listing, sizeof listing);
+}
+
 static u64 run_times(u32 n, u32 length, u32 event_bytes) {
     u64 sum = 1;
     while (n--) {
@@ -124,7 +133,7 @@ static int same(const char *a, const char *b) {
 }
 
 int main(int count, char **words) {
-    static const char usage[] = "usage: speed translate|half|quarter|check|run|calls N\n";
+    static const char usage[] = "usage: speed translate|half|quarter|check|list|run|calls N\n";
     char line[24];
     u32 n = 0, at = sizeof line;
     u64 sum;
@@ -139,6 +148,7 @@ int main(int count, char **words) {
     else if (good && same(words[1], "half")) sum = translate_times(n, put_late(BLOCKS / 2));
     else if (good && same(words[1], "quarter")) sum = translate_times(n, put_late(BLOCKS / 4));
     else if (good && same(words[1], "check")) { translate(text, TEXT, image, sizeof image); sum = check_times(n); }
+    else if (good && same(words[1], "list")) { translate(text, TEXT, image, sizeof image); sum = list_times(n); }
     else if (good && same(words[1], "run")) { translate(text, TEXT, image, sizeof image); sum = run_times(n, sizeof image, sizeof events); }
     else if (good && same(words[1], "calls")) {
         struct translated t = translate((const u8 *)calls, sizeof calls - 1, image, sizeof image);

@@ -47,7 +47,7 @@ module _ (s : List ℕ) (r : Recorded s) where
       let a = ap length (only-variables s f) in
       let b = ap length (flat-none (λ k. f (variableSays s k)) 0 (variableCount s) (λ k l m. refl)) in
       let c = ap length (only-cells s f (λ w. refl)) in
-      let d = length-flat (λ k. f (cellLine s k)) 0 (cellCount s) (λ k. refl) in
+      let d = length-flat (λ k. f (cellLine s k)) 1 0 (cellCount s) (λ k. refl) in
       count-both makesCell ∙ omega arith
 
   pub labels-counted : howMany makesLabel (listedLines s) ≡ labelCount s
@@ -57,7 +57,7 @@ module _ (s : List ℕ) (r : Recorded s) where
       let a = ap length (only-variables s f) in
       let b = ap length (flat-none (λ k. f (variableSays s k)) 0 (variableCount s) (λ k l m. refl)) in
       let c = ap length (of-labels s r f (λ w. refl)) in
-      let d = length-flat (λ k. f (labelLine s k)) 0 (labelCount s) (λ k. refl) in
+      let d = length-flat (λ k. f (labelLine s k)) 1 0 (labelCount s) (λ k. refl) in
       count-both makesLabel ∙ omega arith
 
   pub variables-counted : howMany makesVariable (listedLines s) ≡ variableCount s
@@ -65,7 +65,7 @@ module _ (s : List ℕ) (r : Recorded s) where
   variables-counted =
       let f = tally makesVariable in
       let a = ap length (only-variables s f) in
-      let b = length-flat (λ k. f (variableSays s k)) 0 (variableCount s) (λ k. refl) in
+      let b = length-flat (λ k. f (variableSays s k)) 1 0 (variableCount s) (λ k. refl) in
       let c = ap length (only-cells s f (λ w. refl)) in
       let d = ap length (flat-none (λ k. f (cellLine s k)) 0 (cellCount s) (λ k l m. refl)) in
       count-both makesVariable ∙ omega arith

@@ -5,6 +5,7 @@ pub mod Values
 pub mod Signs
 pub mod Rows
 pub mod Told
+pub mod Lengths
 pub mod Accepted
 pub mod Cells
 pub mod Resolved
@@ -12,8 +13,11 @@ pub mod Renamed
 pub mod Sayable
 pub mod Said
 pub mod Clear
-pub mod Size
 pub mod Lists
+pub mod Sums
+pub mod Size
+pub mod Spare
+pub mod Longest
 pub mod Recorded
 pub mod Order
 pub mod Counted

@@ -1,11 +1,11 @@
 -- Laws of lists made for the numbers from one on: what is made of each, one behind the other, and which of them a test finds.
 -- Assumes nothing.
-use mathlib.Core.Path.{_≡_, refl, ap, ap₂, _∙_}
+use mathlib.Core.Path.{_≡_, refl, sym, ap, ap₂, _∙_}
 use mathlib.Core.Bool.{Bool, false, _||_}
 use mathlib.Core.List.{List, [], _∷_, _++_, flatMap, append-nil}
 use mathlib.Core.Logic.{_⊎_, inl, inr}
-use Prim.Native.Nat.{ℕ, zero, suc, _+_, _≤_, _<_}
-use native.Mathlib.Nat.{eq-or-lt-of-le, suc-add, zero-add, add-zero}
+use Prim.Native.Nat.{ℕ, zero, suc, _+_, _*_, _-_, _≤_, _<_}
+use native.Mathlib.Nat.{eq-or-lt-of-le, suc-add, zero-add, add-zero, mul-zero, mul-suc}
 use native.Mathlib.Omega.{arith}
 use lib.Dec.{T}
 use lib.ListN.{length, length-append}
@@ -52,6 +52,17 @@ module _ {A : Type 0} where
   flat-none g from (suc n) e =
       ap₂ (λ (x y : List A). x ++ y) (e from (omega arith) (omega arith)) (flat-none g (suc from) n (λ k l m. e k (omega arith) (omega arith)))
 
+  -- What is made of one of them, with what stands before and behind it.
+  pub flat-at : (g : ℕ → List A) (n k : ℕ) → k < n → flatMap g (numbers 0 n) ≡ flatMap g (numbers 0 k) ++ (g k ++ flatMap g (numbers (suc k) (n - suc k)))
+  unfolding flatMap listed
+  flat-at g n k h =
+      let m : ℕ = n - suc k in
+      let e : n ≡ k + suc m = omega arith in
+      ap (λ (i : ℕ). flatMap g (numbers 0 i)) e
+      ∙ ap (flatMap g) (listed-append (λ i. i) 0 k (suc m))
+      ∙ flat-append g (numbers 0 k) (numbers (0 + k) (suc m))
+      ∙ ap (λ (i : ℕ). flatMap g (numbers 0 k) ++ flatMap g (numbers i (suc m))) (zero-add k)
+
   -- Of those in the middle one, of the others none.
   pub flat-middle : (g : ℕ → List A) (f : ℕ → A) (a m b n : ℕ) → n ≡ a + (m + b)
       → ((k : ℕ) → k < a → g k ≡ []) → ((k : ℕ) → a ≤ k → k < a + m → g k ≡ f k ∷ []) → ((k : ℕ) → a + m ≤ k → k < n → g k ≡ [])
@@ -73,13 +84,14 @@ module _ {A B : Type 0} where
   flat-listed f g from zero = refl
   flat-listed f g from (suc n) = ap (λ (l : List B). f (g from) ++ l) (flat-listed f g (suc from) n)
 
--- One thing for each number: as many.
-pub length-flat : {A : Type 0} (g : ℕ → List A) (from n : ℕ) → ((k : ℕ) → length (g k) ≡ 1) → length (flatMap g (numbers from n)) ≡ n
+-- As many things for each number.
+pub length-flat : {A : Type 0} (g : ℕ → List A) (w from n : ℕ) → ((k : ℕ) → length (g k) ≡ w) → length (flatMap g (numbers from n)) ≡ w * n
 unfolding flatMap listed
-length-flat g from zero e = refl
-length-flat g from (suc n) e =
-    let h = length-flat g (suc from) n e in
+length-flat g w from zero e = sym (mul-zero w)
+length-flat g w from (suc n) e =
+    let h = length-flat g w (suc from) n e in
     let i = e from in
+    let j = mul-suc w n in
     length-append (g from) (flatMap g (numbers (suc from) n)) ∙ omega arith
 
 -- A test on the elements of a list.

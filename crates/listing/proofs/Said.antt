@@ -3,10 +3,10 @@
 use mathlib.Core.Path.{_≡_, refl, sym, ap, _∙_}
 use mathlib.Core.Bool.{Bool, true, false, cond}
 use mathlib.Core.List.{List, [], _∷_, _++_, map, flatMap, append-assoc, append-nil}
-use Prim.Native.Nat.{ℕ, zero, suc, _+_, _*_, _≤_, _<_}
+use Prim.Native.Nat.{ℕ, zero, suc, _+_, _≤_, _<_}
 use native.Mathlib.Omega.{arith}
 use lib.Dec.{eqb}
-use lib.ListN.{length, length-append}
+use lib.ListN.{length}
 use Rattle.numbers.specs.Bytes.{ascii}
 use Rattle.numbers.specs.Tests.{listed}
 use Rattle.program.specs.Names.{Name}
@@ -23,30 +23,24 @@ use Rattle.listing.proofs.Cut.{lines-line}
 use Rattle.listing.proofs.Tokens.{fine-in-line}
 use Rattle.listing.proofs.Values.{valueTold}
 use Rattle.listing.proofs.Told.{conditionTold, told, Heard, hears-statement, hears-label, hears-declared}
+use Rattle.listing.proofs.Lengths.{statement-short, declared-short, labelled-short}
 use Rattle.listing.proofs.Accepted.{Accepted, accepted}
 use Rattle.listing.proofs.Sayable.{sayable}
 
--- Whatever follows it, a text says these lines first; and it has at most 33 bytes for each of them, the LF with them.
-pub record Says (text : List ℕ) (xs : List Line) : Type 0 where
-  pub speaks : (rest : List ℕ) → said (text ++ rest) ≡ xs ++ said rest
-  pub size : length text ≤ 33 * length xs
+-- Whatever follows it, a text says these lines first.
+abbrev Says : List ℕ → List Line → Type 0
+Says text xs = (rest : List ℕ) → said (text ++ rest) ≡ xs ++ said rest
 
 says-none : Says [] []
-says-none = record { speaks = λ rest. refl; size = omega arith }
+says-none rest = refl
 
 says-both : (a b : List ℕ) (xs ys : List Line) → Says a xs → Says b ys → Says (a ++ b) (xs ++ ys)
-says-both a b xs ys p q = record {
-  speaks = λ rest.
-      ap said (append-assoc a b rest) ∙ p .speaks (b ++ rest) ∙ ap (λ (zs : List Line). xs ++ zs) (q .speaks rest) ∙ sym (append-assoc xs ys (said rest));
-  size = omega (arith, p .size, q .size, length-append a b, length-append xs ys);
-}
+says-both a b xs ys p q rest =
+    ap said (append-assoc a b rest) ∙ p (b ++ rest) ∙ ap (λ (zs : List Line). xs ++ zs) (q rest) ∙ sym (append-assoc xs ys (said rest))
 
-pub says-line : (l : List ℕ) (x : Line) → Heard l x → Says (line l) (x ∷ [])
+says-line : (l : List ℕ) (x : Line) → Heard l x → Says (line l) (x ∷ [])
 unfolding said line
-says-line l x h = record {
-  speaks = λ rest. ap (map heard) (lines-line l rest (fine-in-line l (h .kind))) ∙ ap (λ (y : Line). y ∷ map heard (lines rest)) (h .hears);
-  size = omega (arith, h .size, length-append l (10 ∷ []));
-}
+says-line l x h rest = ap (map heard) (lines-line l rest (fine-in-line l (h .kind))) ∙ ap (λ (y : Line). y ∷ map heard (lines rest)) (h .hears)
 
 -- One after the other, for each number from `from` on.
 module _ (f : ℕ → List ℕ) where
@@ -101,7 +95,7 @@ module _ (s : List ℕ) (a : Accepted s) where
   says-variable k h =
       let w = nameAt s (variablePlace s k) in
       says-line (ascii "VA " ++ (w ++ (ascii "=" ++ plain (startValue s k)))) (Declared w (startValue s k))
-      (hears-declared w (startValue s k) (a .variable-name k h) (a .start-value k h))
+      (hears-declared w (startValue s k) (a .variable-name k h) (a .start-value k h) (omega (arith, declared-short s k)))
 
   says-label : (target k : ℕ) → k < labelCount s → Says (labelLine s target k) (labelSays s target k)
   unfolding labelLine labelSays
@@ -110,7 +104,7 @@ module _ (s : List ℕ) (a : Accepted s) where
     w = nameAt s (labelPlace s k)
 
     either-way : (t : Bool) → Says (cond t (line (ascii "LB " ++ w)) []) (cond t (Label w ∷ []) [])
-    either-way true = says-line (ascii "LB " ++ w) (Label w) (hears-label w (a .label-name k h))
+    either-way true = says-line (ascii "LB " ++ w) (Label w) (hears-label w (a .label-name k h) (omega (arith, labelled-short s k)))
     either-way false = says-none
 
   says-labels : (target : ℕ) → Says (labelLines s target) (labelsSay s target)
@@ -120,7 +114,8 @@ module _ (s : List ℕ) (a : Accepted s) where
   hears-cell : (k : ℕ) → k < cellCount s → Heard (statementText s (statementOf (cellAt s k))) (Acts (statementNamed s (statementOf (cellAt s k))))
   hears-cell k h =
       let st = statementOf (cellAt s k) in
-      rw (statement-named s st) (hears-statement (statementNamed s st) (sayable s a k (a .layout k h)))
+      let l : length (told (statementNamed s st)) ≤ 64 = rw (← statement-named s st) (omega (arith, statement-short s st)) in
+      rw (statement-named s st) (hears-statement (statementNamed s st) (sayable s a k (a .layout k h)) l)
 
   says-cell : (k : ℕ) → k < cellCount s → Says (cellLines s k) (cellSays s k)
   unfolding cellLines cellSays
@@ -129,7 +124,7 @@ module _ (s : List ℕ) (a : Accepted s) where
       says-both (labelLines s k) (line (statementText s st)) (labelsSay s k) (Acts (statementNamed s st) ∷ []) (says-labels k)
       (says-line (statementText s st) (Acts (statementNamed s st)) (hears-cell k h))
 
-  pub says-listing : Says (listing s) (listedLines s)
+  says-listing : Says (listing s) (listedLines s)
   unfolding listing listedLines
   says-listing =
       let vs = flatMap (variableLine s) (listed 0 (variableCount s) (λ k. k)) in
@@ -149,6 +144,6 @@ said-nothing = refl
 -- Demand 2: the text of an accepted image says the lines that the image stands for.
 pub listing-said : (s : List ℕ) → checked s ≡ 0 → said (listing s) ≡ listedLines s
 listing-said s e =
-    ap said (sym (append-nil (listing s))) ∙ says-listing s (accepted s e) .speaks []
+    ap said (sym (append-nil (listing s))) ∙ says-listing s (accepted s e) []
     ∙ ap (λ (more : List Line). listedLines s ++ more) said-nothing
     ∙ append-nil (listedLines s)

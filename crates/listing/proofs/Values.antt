@@ -5,7 +5,7 @@ use mathlib.Core.Bool.{Bool, true, false, _&&_, not}
 use mathlib.Core.List.{List, [], _∷_, _++_}
 use mathlib.Core.Logic.{⊎-elim}
 use mathlib.Core.Option.{none, some}
-use Prim.Native.Nat.{ℕ, _≤_, _<_}
+use Prim.Native.Nat.{ℕ, _<_}
 use native.Mathlib.Omega.{arith}
 use lib.Dec.{T, T-not, eqb, leb, leb→le, eqb→eq}
 use lib.IntN.{pos, negsuc}
@@ -22,16 +22,15 @@ use Rattle.text.specs.Tokens.{Token, tokens}
 use Rattle.text.specs.Forms.{digits, literal, variableName, variable, operand, took, put, word}
 use Rattle.printing.specs.Listing.{plain}
 use Rattle.listing.proofs.Tokens.{token, follows, Stops, fine, tokens-word, word-is-not, word-fine}
-use Rattle.listing.proofs.Literals.{literalTokens, literal-read, tokens-literal, literal-fine, literal-length, figures, figures-word, figures-some}
+use Rattle.listing.proofs.Literals.{literalTokens, literal-read, tokens-literal, literal-fine, figures, figures-word, figures-some}
 
--- A name of one or two characters of which the first is a letter.
+-- A name of characters of a word, of which the first is a letter.
 abbrev pub spelt : Name → Bool
-spelt w = letter (getD w 0 0) && (allOf wordCharacter w && leb (length w) 2)
+spelt w = letter (getD w 0 0) && allOf wordCharacter w
 
 pub record Spelt (w : Name) : Type 0 where
   pub word : T (allOf wordCharacter w)
   pub some : 0 < length w
-  pub short : length w ≤ 2
   pub no-digits : allOf digit w ≡ false
 
 letter-no-digit : (c : ℕ) → T (letter c) → digit c ≡ false
@@ -46,9 +45,8 @@ pub spelling : (w : Name) → T (spelt w) → Spelt w
 unfolding allOf letter
 spelling [] t = absurd t
 spelling (c ∷ w) t =
-    let p = both (letter c) (allOf wordCharacter (c ∷ w) && leb (length (c ∷ w)) 2) t in
-    let q = both (allOf wordCharacter (c ∷ w)) (leb (length (c ∷ w)) 2) (p .1) in
-    record { word = q .0; some = omega arith; short = leb→le (length (c ∷ w)) 2 (q .1); no-digits = rw (letter-no-digit c (p .0)) }
+    let p = both (letter c) (allOf wordCharacter (c ∷ w)) t in
+    record { word = p .1; some = omega arith; no-digits = rw (letter-no-digit c (p .0)) }
 
 pub two-spelt : (w : Name) → T (twoCharacters w) → Spelt w
 unfolding twoCharacters allOf letter wordCharacter digit
@@ -56,7 +54,7 @@ two-spelt [] t = absurd t
 two-spelt (a ∷ []) t = absurd t
 two-spelt (a ∷ b ∷ []) t =
     let p = both (letter a) (wordCharacter b) t in
-    record { word = both-of (wordCharacter a) (wordCharacter b && true) (left-of (letter a) (digit a) (p .0)) (both-of (wordCharacter b) true (p .1) tt); some = omega arith; short = omega arith; no-digits = rw (letter-no-digit a (p .0)) }
+    record { word = both-of (wordCharacter a) (wordCharacter b && true) (left-of (letter a) (digit a) (p .0)) (both-of (wordCharacter b) true (p .1) tt); some = omega arith; no-digits = rw (letter-no-digit a (p .0)) }
 two-spelt (a ∷ b ∷ c ∷ w) t =
     let e = eqb→eq (length (a ∷ b ∷ c ∷ w)) 2 (both (eqb (length (a ∷ b ∷ c ∷ w)) 2) (letter a && wordCharacter b) t .0) in
     absurd (omega arith)
@@ -118,10 +116,6 @@ tokens-value (Variable w) rest h e = tokens-name w rest (variable-spelt w h) e
 pub value-fine : (x : Value Name) → Sound x → T (allOf fine (valueTold x))
 value-fine (Literal z) h = literal-fine z
 value-fine (Variable w) h = name-fine w (variable-spelt w h)
-
-pub value-length : (x : Value Name) → Sound x → length (valueTold x) ≤ 11
-value-length (Literal z) h = literal-length z
-value-length (Variable w) h = let s = variable-spelt w h in omega arith
 
 -- An operand starts with neither = nor >, so that no sign before it goes on.
 pub record Starts (l : List ℕ) : Type 0 where
