@@ -28,3 +28,6 @@ pub mod Pieces
 pub mod Image
 pub mod Clean
 pub mod Back
+pub mod Firsts
+pub mod Texts
+pub mod Written

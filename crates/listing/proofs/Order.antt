@@ -40,26 +40,26 @@ unfolding listedLines
 front-body s = refl
 
 -- The first label that has this target or a later one.
-unfoldable start : List ℕ → ℕ → ℕ
+unfoldable pub start : List ℕ → ℕ → ℕ
 start s t = firstBelow (labelCount s) (λ k. leb t (labelTarget s k))
 
 module _ (s : List ℕ) (r : Recorded s) where
-  start-most : (t : ℕ) → start s t ≤ labelCount s
+  pub start-most : (t : ℕ) → start s t ≤ labelCount s
   unfolding start
   start-most t = first-most (λ k. leb t (labelTarget s k)) (labelCount s)
 
-  earlier : (t k : ℕ) → k < start s t → labelTarget s k < t
+  pub earlier : (t k : ℕ) → k < start s t → labelTarget s k < t
   unfolding start
   earlier t k h = leb-false t (labelTarget s k) (first-before (λ j. leb t (labelTarget s j)) (labelCount s) k h)
 
-  later : (t k : ℕ) → start s t ≤ k → k < labelCount s → t ≤ labelTarget s k
+  pub later : (t k : ℕ) → start s t ≤ k → k < labelCount s → t ≤ labelTarget s k
   unfolding start
   later t k h l =
       let a = leb-true t (labelTarget s (start s t)) (first-passes (λ j. leb t (labelTarget s j)) (labelCount s) (omega arith)) in
       let b = r .rising (start s t) k h l in
       omega arith
 
-  start-rise : (t u : ℕ) → t ≤ u → start s t ≤ start s u
+  pub start-rise : (t u : ℕ) → t ≤ u → start s t ≤ start s u
   start-rise t u l = go (decLt (start s u) (start s t)) where
     go : Dec (start s u < start s t) → start s t ≤ start s u
     go (yes h) =
@@ -69,13 +69,13 @@ module _ (s : List ℕ) (r : Recorded s) where
         absurd (omega arith)
     go (no h) = omega arith
 
-  start-first : start s 0 ≡ 0
+  pub start-first : start s 0 ≡ 0
   start-first = go (decLt 0 (start s 0)) where
     go : Dec (0 < start s 0) → start s 0 ≡ 0
     go (yes h) = let a = earlier 0 0 h in absurd (omega arith)
     go (no h) = omega arith
 
-  start-last : start s (suc (cellCount s)) ≡ labelCount s
+  pub start-last : start s (suc (cellCount s)) ≡ labelCount s
   start-last = go (decLt (start s (suc (cellCount s))) (labelCount s)) where
     go : Dec (start s (suc (cellCount s)) < labelCount s) → start s (suc (cellCount s)) ≡ labelCount s
     go (yes h) =
@@ -100,7 +100,7 @@ module _ (s : List ℕ) (r : Recorded s) where
     abbrev ofLabel : ℕ → List A
     ofLabel k = f (labelLine s k)
 
-    of-run : (t : ℕ) → flatMap f (labelsSay s t) ≡ flatMap ofLabel (numbers (start s t) (start s (suc t) - start s t))
+    pub of-run : (t : ℕ) → flatMap f (labelsSay s t) ≡ flatMap ofLabel (numbers (start s t) (start s (suc t) - start s t))
     of-run t = ap (flatMap f) (labels-run t) ∙ flat-listed f (labelLine s) (start s t) (start s (suc t) - start s t)
 
     of-cell : (t : ℕ) → flatMap f (cellSays s t) ≡ flatMap f (labelsSay s t)
