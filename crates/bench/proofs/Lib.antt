@@ -1,9 +1,11 @@
 pub mod Refusals
 pub mod Translations
+pub mod Listings
 pub mod Texts
 pub mod Demands
 pub mod Unique
 pub mod Decided
+pub mod Relisted
 pub mod Impostors
 pub mod Promised
 pub mod States

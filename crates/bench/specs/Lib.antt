@@ -1,7 +1,9 @@
 pub mod Translating
+pub mod Listings
 pub mod Answers
 pub mod Running
 pub mod Following
 pub mod Calls
 pub mod Sheet
 pub mod Demands
+pub mod Requests

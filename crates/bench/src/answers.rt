@@ -2,6 +2,8 @@
 ghost use mathlib.Core.Path.{_≡_};
 ghost use Rattle.bench.specs.Answers.{stateOf, noState, refusedAs, motionNumber, motionValue};
 ghost use Rattle.bench.specs.Translating.{answered};
+ghost use Rattle.bench.specs.Listings.{listAnswered};
+use crate::Listed;
 use crate::Ran;
 use crate::State;
 use crate::Translated;
@@ -15,6 +17,9 @@ pub const SHORT_BUFFER: u8 = 10;
 
 // The most bytes that a text may have.
 pub const LONGEST_TEXT: usize = 16384;
+
+// The refusal of a listing, behind those of its image.
+pub const SHORT_TEXT: u8 = 11;
 
 // The refusals of a run, behind those of its image.
 pub const BAD_SCRIPT: u8 = 32;
@@ -39,6 +44,13 @@ pub fn not_translated(number: u8, line: usize) -> Translated
         line,
         length: 0,
     }
+}
+
+// A listing that is refused: the number, and no text.
+pub fn not_listed(number: u8) -> Listed
+    ensures { λ r. ⌜ r ≡ listAnswered number 0 ⌝ }
+{
+    Listed { number, length: 0 }
 }
 
 // A motion in an answer.

@@ -1,7 +1,7 @@
-// The bench: a text translated, an image checked, an image run. Its answers are plain data.
+// The bench: a text translated, an image checked, listed and run. Its answers are plain data.
 mod answers;
 
-ghost use Rattle.bench.specs.Calls.{Translates, Checks, Runs};
+ghost use Rattle.bench.specs.Calls.{Translates, Checks, Lists, Runs};
 
 // Number 0, and the image's length; or the refusal with its line.
 pub struct Translated {
@@ -13,6 +13,12 @@ pub struct Translated {
 // 0, or the refusal.
 pub struct Checked {
     pub number: u8,
+}
+
+// Number 0, and the listing's length; or the refusal.
+pub struct Listed {
+    pub number: u8,
+    pub length: usize,
 }
 
 // A machine's state. The handler is 65535 where there is none; the motion is 0 still, 1 a move, 2 a slew, and its value the target or the velocity.
@@ -74,6 +80,21 @@ pub fn check(image: &[u8]) -> Checked
     Checked {
         number: checking::checked(image),
     }
+}
+
+// Lists an image: a text that translates into it goes to the front of the buffer.
+pub fn list(image: &[u8], text: &mut [u8]) -> Listed
+    ensures { λ r. ⌜ Lists (now (image .entry)) (now (text .entry)) r (now (text .exit)) ⌝ }
+{
+    let number = checking::checked(image);
+    if number != 0 {
+        return answers::not_listed(number);
+    }
+    let length = printing::write_listing(image, text);
+    if text.len() < length {
+        return answers::not_listed(answers::SHORT_TEXT);
+    }
+    Listed { number: 0, length }
 }
 
 // Runs an image on a script of events for at most `budget` turns, and writes the records.
