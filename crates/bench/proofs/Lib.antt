@@ -7,6 +7,7 @@ pub mod Unique
 pub mod Decided
 pub mod Relisted
 pub mod Impostors
+pub mod Listers
 pub mod Promised
 pub mod States
 pub mod Later
