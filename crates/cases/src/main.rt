@@ -18,10 +18,13 @@ const CHECK: usize = 2;
 
 const RUN: usize = 3;
 
+const LIST: usize = 4;
+
 // A request's header. Its numbers are, by kind:
 //   translate: the text's length, 0, the size of the image buffer, 0
 //   check: the image's length, 0, 0, 0
 //   run: the image's length, the events' length, the budget, the size of the record buffer
+//   list: the image's length, 0, the size of the text buffer, 0
 struct Header {
     kind: usize,
     n1: usize,
@@ -41,9 +44,14 @@ impl Header {
         }
     }
 
-    // The kind is one of the three, and each number that it does not use is 0.
+    // The call writes what it makes of its one part to a buffer.
+    fn is_made(self) -> bool {
+        (self.kind == TRANSLATE) | (self.kind == LIST)
+    }
+
+    // The kind is one of the four, and each number that it does not use is 0.
     fn is_of_a_kind(self) -> bool {
-        if self.kind == TRANSLATE {
+        if self.is_made() {
             return (self.n2 == 0) & (self.n4 == 0);
         }
         if self.kind == CHECK {
@@ -54,11 +62,7 @@ impl Header {
 
     // The size of the buffer that the call is lent.
     fn lent(self) -> usize {
-        if self.kind == TRANSLATE {
-            self.n3
-        } else {
-            self.n4
-        }
+        if self.is_made() { self.n3 } else { self.n4 }
     }
 
     // There is room for the parts and for the buffer too.
@@ -92,6 +96,14 @@ fn answer_check(image: &[u8]) -> bool {
     line::end(line::number(Line::empty().byte(b'C'), checked.number as u64))
 }
 
+fn answer_list(image: &[u8], text: &mut [u8]) -> bool {
+    let listed = bench::list(image, text);
+    let mut line = Line::empty().byte(b'L');
+    line = line::number(line, listed.number as u64);
+    line = line::number(line, listed.length as u64);
+    line::contents(line, text)
+}
+
 fn answer_run(image: &[u8], events: &[u8], budget: u64, records: &mut [u8]) -> bool {
     let ran = bench::run(image, events, budget, records);
     line::contents(line::ran(Line::empty().byte(b'R'), ran), records)
@@ -104,6 +116,9 @@ fn call(kind: usize, budget: u64, first: &[u8], second: &[u8], lent: &mut [u8]) 
     }
     if kind == CHECK {
         return answer_check(first);
+    }
+    if kind == LIST {
+        return answer_list(first, lent);
     }
     answer_run(first, second, budget, lent)
 }

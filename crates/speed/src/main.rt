@@ -1,6 +1,6 @@
-// Repeats one of the bench's three calls, and writes a checksum of the answers and of the buffer that the call fills or reads. The arguments are
+// Repeats one of the bench's four calls, and writes a checksum of the answers and of the buffer that the call fills or reads. The arguments are
 // what is repeated, and how many times: `translate` takes the largest program with its names declared behind all statements, `half` and
-// `quarter` so much of it; `check` and `run` take the largest program, and `calls` runs one that calls and returns.
+// `quarter` so much of it; `check`, `list` and `run` take the largest program, and `calls` runs one that calls and returns.
 mod build;
 mod sums;
 
@@ -8,6 +8,8 @@ use libc::STDERR_FILENO;
 use libc::STDOUT_FILENO;
 
 const LONGEST_IMAGE: usize = 5008;
+
+const LONGEST_LISTING: usize = 9472;
 
 // The longest argument that is read.
 const WORD: usize = 16;
@@ -32,6 +34,8 @@ const HALF: u8 = 5;
 
 const QUARTER: u8 = 6;
 
+const LIST: u8 = 7;
+
 fn task(word: &[u8]) -> u8 {
     if parts::same(word, b"translate") {
         return TRANSLATE;
@@ -44,6 +48,9 @@ fn task(word: &[u8]) -> u8 {
     }
     if parts::same(word, b"check") {
         return CHECK;
+    }
+    if parts::same(word, b"list") {
+        return LIST;
     }
     if parts::same(word, b"run") {
         return RUN;
@@ -70,6 +77,19 @@ fn check(times: u64, image: &[u8]) -> u64 {
     sums::bytes(sum, image)
 }
 
+fn list(times: u64, image: &[u8], text: &mut [u8]) -> u64 {
+    let mut sum = FIRST_SUM;
+    for _ in 0..times {
+        sum = sums::listed(sum, bench::list(image, text));
+    }
+    sums::bytes(sum, text)
+}
+
+fn lists(times: u64, image: &[u8]) -> u64 {
+    let mut text = [0u8; LONGEST_LISTING];
+    list(times, image, &mut text)
+}
+
 fn run(times: u64, image: &[u8], events: &[u8], records: &mut [u8]) -> u64 {
     let mut sum = FIRST_SUM;
     for _ in 0..times {
@@ -90,6 +110,9 @@ fn on_image(task: u8, times: u64, text: &[u8], events: &[u8]) -> u64 {
     let image = parts::front(&room, translated.length);
     if task == CHECK {
         return check(times, image);
+    }
+    if task == LIST {
+        return lists(times, image);
     }
     runs(times, image, events)
 }
@@ -126,7 +149,7 @@ fn repeat(task: u8, times: u64) -> u64 {
     if task == CALLS {
         return on_calls(times);
     }
-    if (task == CHECK) | (task == RUN) {
+    if (task == CHECK) | (task == LIST) | (task == RUN) {
         return on_largest(task, times);
     }
     on_text(times, size(task))
@@ -135,7 +158,7 @@ fn repeat(task: u8, times: u64) -> u64 {
 fn tell_usage() {
     io::write_all(
         STDERR_FILENO,
-        b"usage: speed translate|half|quarter|check|run|calls N\n",
+        b"usage: speed translate|half|quarter|check|list|run|calls N\n",
     );
 }
 

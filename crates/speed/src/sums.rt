@@ -1,5 +1,6 @@
 // Checksums: each number is mixed into the sum of those before it.
 use bench::Checked;
+use bench::Listed;
 use bench::Ran;
 use bench::State;
 use bench::Translated;
@@ -46,6 +47,11 @@ pub fn translated(start: u64, answer: Translated) -> u64 {
 
 pub fn checked(sum: u64, answer: Checked) -> u64 {
     mixed(sum, answer.number as u64)
+}
+
+pub fn listed(start: u64, answer: Listed) -> u64 {
+    let sum = mixed(start, answer.number as u64);
+    mixed(sum, answer.length as u64)
 }
 
 pub fn ran(start: u64, answer: Ran) -> u64 {
