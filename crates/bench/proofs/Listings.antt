@@ -1,12 +1,10 @@
 -- The cases of listing, from what the code writes: refused, no room, listed.
 -- Assumes nothing.
 use mathlib.Core.Path.{_≡_, refl, sym, ap, _∙_}
-use mathlib.Core.Bool.{cond}
 use mathlib.Core.List.{List, _++_}
 use Prim.Native.Nat.{ℕ, _≤_, _<_}
 use native.Mathlib.Omega.{arith}
 use borrow.Author.Tests.{lt-ltb, le-ltb, ne-eqb}
-use lib.Dec.{eqb, ltb}
 use lib.ListN.{length, drop}
 use Rattle.image.specs.Check.{checked}
 use Rattle.printing.specs.Listing.{listing}

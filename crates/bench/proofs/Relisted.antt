@@ -1,38 +1,35 @@
 -- The bench's own calls do what Q-1 asks, and no other lister does; a longest listing is reached.
 -- Assumes nothing.
 use mathlib.Core.Path.{_≡_, refl, sym, ap, ap₂, _∙_}
-use mathlib.Core.Bool.{Bool, true, false}
 use mathlib.Core.List.{List, _++_}
-use mathlib.Core.Logic.{_⊎_, inl, inr}
+use mathlib.Core.Logic.{_↔_}
 use Prim.Native.Nat.{ℕ, _+_, _-_, _≤_, _<_}
 use native.Mathlib.Omega.{arith}
-use borrow.Author.Tests.{eqb-true, eqb-false}
-use lib.Dec.{eqb}
-use lib.ListN.{length, take, drop, replicate, length-replicate}
+use lib.ListN.{length, drop, replicate, length-replicate}
 use lib.Seq.{take-at}
 use Rattle.numbers.specs.Tests.{NoRow}
 use Rattle.numbers.proofs.Truth.{if-same, if-below}
 use Rattle.image.specs.Check.{imageFaults, checked}
-use Rattle.translation.specs.Images.{image, accepted}
-use Rattle.refusals.proofs.Lowest.{lowest-exactly, lowest-zero}
+use Rattle.translation.specs.Images.{image}
 use Rattle.printing.specs.Listing.{listing}
 use Rattle.listing.proofs.Back.{listing-accepted}
 use Rattle.listing.proofs.Image.{listing-image}
 use Rattle.listing.proofs.Size.{listing-size}
 use Rattle.listing.proofs.Longest.{longestImage, longest-accepted, longest-size}
 use Rattle.bench.specs.Translating.{answered}
-use Rattle.bench.specs.Listings.{listAnswered, listedAs, listedInto}
+use Rattle.bench.specs.Listings.{listAnswered, listedAs}
 use Rattle.bench.specs.Running.{checkedAs}
 use Rattle.bench.specs.Calls.{Lists}
-use Rattle.bench.specs.Demands.{Bytes, Translation, Translate, given, ourTranslate}
+use Rattle.bench.specs.Demands.{Bytes, Translate, given, ourTranslate}
 use Rattle.bench.specs.Requests.{Listing, ListImage, told, ListRefused, Request1, ourList}
 use Rattle.bench.specs.declared.Listed.{Listed}
 use Rattle.bench.proofs.Listings.{refused-image, refused-kept, short-refused, short-kept, fits-answered, fits-listed}
 use Rattle.bench.proofs.Demands.{ours-fits, given-fits, image-refused, image-numbers}
 
--- The promise of the call says exactly that it is this function; any two results that satisfy it are equal, refused calls too.
-pub lists-ours : (s before : List ℕ) (a : Listed) (after : List ℕ) → Lists s before a after → (a ≡ ourList s before .answer) × (after ≡ ourList s before .text)
-lists-ours s before a after l = (l .answers, l .leaves)
+-- The promise of the call (Calls.antt) says exactly that it is this function.
+pub lists-ours : (s before : List ℕ) (a : Listed) (after : List ℕ)
+    → Lists s before a after ↔ ((a ≡ ourList s before .answer) × (after ≡ ourList s before .text))
+lists-ours s before a after = (λ l. (l .answers, l .leaves), λ e. record { answers = e .0; leaves = e .1 })
 
 -- ---- Q-1 4: an image and a buffer fall under one of three cases
 

@@ -1,26 +1,25 @@
 -- The line that the code makes of a cell, of a label and of a variable is that of the listing.
 -- Assumes nothing.
 use mathlib.Core.Path.{_≡_, refl, sym, ap, _∙_}
-use mathlib.Core.Bool.{Bool, true, false, cond, _&&_, _||_, not, or-true, or-false}
-use mathlib.Core.List.{List, [], _∷_, _++_, append-assoc, append-nil}
+use mathlib.Core.Bool.{Bool, true, false, _&&_, _||_, or-true, or-false}
+use mathlib.Core.List.{List, [], _∷_, _++_, append-assoc}
 use Prim.Native.Nat.{ℕ, _-_, _%_, _≤_, _<_}
 use native.Mathlib.Omega.{arith}
-use borrow.Author.Tests.{lt-ltb, le-ltb, eq-eqb, ne-eqb, eqb-true}
+use borrow.Author.Tests.{lt-ltb, le-ltb, ne-eqb, eqb-true}
 use lib.Dec.{T, eqb, leb}
 use lib.ListN.{getD}
 use Rattle.numbers.specs.Bytes.{ascii, number, field}
-use Rattle.numbers.specs.Tests.{anyBelow, firstBelow}
+use Rattle.numbers.specs.Tests.{firstBelow}
 use Rattle.numbers.proofs.Tests.{first-found, first-passes}
-use Rattle.program.specs.Names.{Name, mnemonics, variableNames, paperVariable, userName}
+use Rattle.program.specs.Names.{Name, mnemonics, variableNames, userName}
 use Rattle.program.specs.Variables.{present}
-use Rattle.program.specs.Statements.{Value, Literal, Variable, Operator, Comparison, Condition, Always, Compare, Statement, Set, SetWith, IC, DC, BR, CL, RT, E, H, Hold, OE, Disarm, MA, MR, SL, PR, operands, compared, writes, targets}
-use Rattle.program.specs.Cells.{noTarget, same, operandOf, jumpOf, cellOf, operatorNumber, comparisonNumber, operatorOf, comparisonOf, statementOf}
+use Rattle.program.specs.Statements.{Value, Literal, Variable, Always, Compare, Statement, Set, SetWith, IC, DC, BR, CL, RT, E, H, Hold, OE, Disarm, MA, MR, SL, PR, operands, compared, writes, targets}
+use Rattle.program.specs.Cells.{noTarget, same, operandOf, jumpOf, cellOf, statementOf}
 use Rattle.program.specs.Code.{key}
-use Rattle.program.specs.declared.Operand.the-variants as O
 use Rattle.program.proofs.Keys.{IsWord, single, double, user-word, paper-word, key-positive}
 use Rattle.program.proofs.Ranges.{by-present}
 use Rattle.program.proofs.Selectors.{operator-back, comparison-back, comparison-some}
-use Rattle.text.specs.Forms.{operatorSign, comparisonSign}
+use Rattle.text.specs.Forms.{comparisonSign}
 use Rattle.image.specs.Layout.{cellCount, labelCount, variableCount, cellAt, labelPlace, labelTarget, variablePlace, startValue, nameAt}
 use Rattle.printing.specs.Listing.{plain, variableName, labelName, valueText, conditionText, statementText, line, variableLine}
 use Rattle.printing.specs.Code.{packed, packedIn, ifSo, phraseText, operandText, isThere, jumps, firstsOf, targetKey, nameKey, commaIf, opening, operatorText, comparisonText, signText, cellText, labelText, variableText}

@@ -8,7 +8,7 @@ use native.Mathlib.Decide.{decLt}
 use native.Mathlib.Nat.{sub-zero}
 use native.Mathlib.Omega.{arith}
 use borrow.Author.Tests.{lt-ltb, le-ltb}
-use lib.Dec.{eqb, ltb}
+use lib.Dec.{eqb}
 use Rattle.numbers.specs.Bytes.{ascii, field}
 use Rattle.numbers.specs.Tests.{listed}
 use Rattle.numbers.proofs.Truth.{if-below}

@@ -9,7 +9,7 @@ use lib.Dec.{eqb, ltb, leb}
 use lib.IntN.{ℤ}
 use lib.ListN.{length, getD, set, drop, replicate}
 use lib.Seq.{sets}
-use Rattle.numbers.specs.Bytes.{ascii, field}
+use Rattle.numbers.specs.Bytes.{field}
 use Rattle.numbers.specs.Tests.{listed}
 use Rattle.program.specs.Names.{mnemonics}
 use Rattle.program.specs.Cells.{noTarget, operatorOf, comparisonOf}
