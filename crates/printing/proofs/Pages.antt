@@ -1,26 +1,25 @@
 -- Laws of pages: bytes put one behind the other are the joined bytes put at once, whatever room there is.
 -- Assumes nothing.
 use mathlib.Core.Path.{_≡_, refl, sym, ap, _∙_}
-use mathlib.Core.Bool.{cond}
-use mathlib.Core.List.{List, [], _∷_, _++_, flatMap, append-nil}
-use Prim.Native.Nat.{ℕ, suc, _+_, _-_, _≤_, _<_}
-use native.Mathlib.Nat.{le-trans, min-le-left, min-le-right, le-min}
+use mathlib.Core.List.{List, [], _∷_, _++_, flatMap}
+use Prim.Native.Nat.{ℕ, suc, _+_, _-_, _/_, _%_, _≤_, _<_}
+use native.Mathlib.Nat.{le-trans, min-le-left, le-min}
 use native.Mathlib.Omega.{arith}
 use borrow.Author.Tests.{lt-ltb, le-ltb}
-use lib.Dec.{ltb}
 use lib.ListN.{length, getD, set, take, drop, drop-of-length-le, length-set, length-take}
 use lib.Seq.{sets, set-out, length-sets, drop-cons, getD-take}
 use Rattle.numbers.specs.Tests.{listed}
 use Rattle.numbers.proofs.Laws.{sets-out}
 use Rattle.numbers.proofs.Truth.{if-below}
-use Rattle.printing.specs.Code.{behind, Put}
+use Rattle.printing.specs.Code.{packed, behind, Put}
+use Rattle.printing.proofs.Packed.{packed-none, packed-more}
 
-pub behind-out : (room at : ℕ) (xs : List ℕ) → room ≤ at → behind room at xs ≡ at
+behind-out : (room at : ℕ) (xs : List ℕ) → room ≤ at → behind room at xs ≡ at
 unfolding behind
 behind-out room at [] h = refl
 behind-out room at (x ∷ xs) h = rw (le-ltb at room h) refl
 
-pub behind-more : (room at x : ℕ) (xs : List ℕ) → at < room → behind room at (x ∷ xs) ≡ behind room (suc at) xs
+behind-more : (room at x : ℕ) (xs : List ℕ) → at < room → behind room at (x ∷ xs) ≡ behind room (suc at) xs
 unfolding behind
 behind-more room at x xs h = rw (lt-ltb at room h) refl
 
@@ -52,11 +51,7 @@ sets-append page at (x ∷ xs) ys =
     ∙ sets-out page at ys h
     ∙ sym (ap (λ (l : List ℕ). sets l (suc at) (xs ++ ys)) e ∙ sets-out page (suc at) (xs ++ ys) (omega arith))))
 
--- Nothing put; bytes, and others behind them; the same bytes by another name.
-pub put-none : (page : List ℕ) (at : ℕ) → Put [] page at at page
-unfolding behind
-put-none page at = record { place = refl; page = refl }
-
+-- Bytes, and others behind them; the same bytes by another name.
 module _ {xs ys old mid new : List ℕ} {at next last : ℕ} where
   pub put-then : Put xs old at next mid → Put ys mid next last new → Put (xs ++ ys) old at last new
   put-then p q = record {
@@ -105,13 +100,13 @@ module _ {whole old left page : List ℕ} {start at : ℕ} where
     page = sym (ap (sets page at) e) ∙ p .bytes;
   }
 
-  pub put-out : length page ≤ at → Putting whole old start left page at → Put whole old start at page
+  put-out : length page ≤ at → Putting whole old start left page at → Put whole old start at page
   put-out h p = record {
     place = sym (behind-out (length old) at left (omega (arith, p .size))) ∙ p .place;
     page = sym (sets-out page at left h) ∙ p .bytes;
   }
 
-  -- One piece more, and the last one.
+  -- One piece more.
   pub put-next : {xs new : List ℕ} {next : ℕ} → Putting whole old start (xs ++ left) page at → Put xs page at next new → Putting whole old start left new next
   put-next {xs} {new} {next} p q = record {
     size = length-put q ∙ p .size;
@@ -127,14 +122,48 @@ module _ {whole old left page : List ℕ} {start at : ℕ} where
         ∙ p .bytes;
   }
 
-module _ {whole old left page new : List ℕ} {start at next : ℕ} where
-  pub put-last : Putting whole old start left page at → Put left page at next new → Put whole old start next new
-  put-last p q = put-all refl (put-next (putting-same (sym (append-nil left)) p) q)
-
 -- A byte of a word.
-pub put-byte : {page : List ℕ} {at b : ℕ} → at < length page → Put (b ∷ []) page at (at + 1) (set page at b)
+put-byte : {page : List ℕ} {at b : ℕ} → at < length page → Put (b ∷ []) page at (at + 1) (set page at b)
 unfolding behind
 put-byte {page} {at} {b} h = record { place = sym (behind-more (length page) at b [] h ∙ omega arith); page = refl }
+
+-- How much is left of words, more than of what stands behind the first of them.
+pub leftOf : List ℕ → ℕ
+leftOf [] = 0
+leftOf (x ∷ xs) = suc (x + leftOf xs)
+
+pub left-less : (words : List ℕ) (k rest : ℕ) → k < length words → leftOf (drop (k + 1) words) + getD words k 0 < leftOf (drop k words) + rest
+unfolding leftOf
+left-less words k rest h = let one : k + 1 ≡ suc k = omega arith in rw (one, drop-cons words k 0 h) (omega arith)
+
+-- Words as they are put, with what is left of one that was begun: the first is begun; a byte; one is done, and the next is begun or there is none.
+pub record Wording (words old : List ℕ) (start rest k : ℕ) (page : List ℕ) (at : ℕ) : Type 0 where
+  pub left : Putting (flatMap packed words) old start (packed rest ++ flatMap packed (drop k words)) page at
+
+pub wording : (words old : List ℕ) (start : ℕ) → Wording words old start 0 0 old start
+wording words old start = record { left = putting-same (sym (ap (λ (xs : List ℕ). xs ++ flatMap packed words) packed-none)) (putting (flatMap packed words) old start) }
+
+module _ {words old page : List ℕ} {start rest k at : ℕ} (p : Wording words old start rest k page at) where
+  pub word-byte : (rest ≡ 0 → ⊥) → at < length page → Wording words old start (rest / 256) k (set page at (rest % 256)) (at + 1)
+  word-byte h l = record {
+    left = put-next (putting-same (ap (λ (xs : List ℕ). xs ++ flatMap packed (drop k words)) (packed-more rest h)) (p .left)) (put-byte l);
+  }
+
+  word-done : rest ≡ 0 → packed rest ++ flatMap packed (drop k words) ≡ flatMap packed (drop k words)
+  word-done e = ap (λ (xs : List ℕ). xs ++ flatMap packed (drop k words)) (ap packed e ∙ packed-none)
+
+  pub word-next : rest ≡ 0 → k < length words → Wording words old start (getD words k 0) (k + 1) page at
+  unfolding flatMap
+  word-next e h = record {
+    left = let one : k + 1 ≡ suc k = omega arith in putting-same (word-done e ∙ ap (flatMap packed) (drop-cons words k 0 h) ∙ rw one refl) (p .left);
+  }
+
+  pub words-put : rest ≡ 0 → length words ≤ k → Put (flatMap packed words) old start at page
+  unfolding flatMap
+  words-put e h = put-all (word-done e ∙ ap (flatMap packed) (drop-of-length-le words h)) (p .left)
+
+  pub words-out : length page ≤ at → Put (flatMap packed words) old start at page
+  words-out h = put-out h (p .left)
 
 -- Pieces for the numbers from k to before n: one and the others, or none.
 module _ (f : ℕ → List ℕ) (k n : ℕ) where
@@ -158,18 +187,9 @@ pub copying : (page : List ℕ) (held : ℕ) (old : List ℕ) → Copying page h
 copying page held old = record { size = refl; whole = refl }
 
 module _ {page old new : List ℕ} {held i : ℕ} where
-  copied : Copying page held old new i → length (take held page) ≤ i → new ≡ sets old 0 (take held page)
-  copied p h = sym (ap (sets new i) (drop-of-length-le (take held page) h)) ∙ p .whole
-
-  -- All that is held is copied; all of the page; all that there is room for.
-  pub copied-held : Copying page held old new i → held ≤ i → new ≡ sets old 0 (take held page)
-  copied-held p h = copied p (le-trans (rw (length-take held page) (min-le-left held (length page))) h)
-
-  pub copied-page : Copying page held old new i → length page ≤ i → new ≡ sets old 0 (take held page)
-  copied-page p h = copied p (le-trans (rw (length-take held page) (min-le-right held (length page))) h)
-
-  pub copied-out : Copying page held old new i → length new ≤ i → new ≡ sets old 0 (take held page)
-  copied-out p h = sym (sets-out new i (drop i (take held page)) h) ∙ p .whole
+  pub copied : Copying page held old new i → held ≤ i → new ≡ sets old 0 (take held page)
+  copied p h =
+      sym (ap (sets new i) (drop-of-length-le (take held page) (le-trans (rw (length-take held page) (min-le-left held (length page))) h))) ∙ p .whole
 
   pub copying-more : Copying page held old new i → i < held → i < length page → Copying page held old (set new i (getD page i 0)) (i + 1)
   copying-more p h l =

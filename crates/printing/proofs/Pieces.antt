@@ -1,125 +1,152 @@
--- What the writing functions put, from what they call: numbers, literals, operands, and the lines of variables and cells.
+-- The words of a line give its text: of a label, a variable, and the two halves of a cell's; and the loops that put them.
 -- Assumes nothing.
 use mathlib.Core.Path.{_≡_, refl, sym, ap, _∙_}
-use mathlib.Core.Bool.{Bool, true}
-use mathlib.Core.List.{List, [], _∷_, _++_}
-use Prim.Native.Nat.{ℕ, suc, _+_, _*_, _-_, _/_, _%_, _≤_, _<_}
+use mathlib.Core.Bool.{Bool, true, false, _&&_, _||_, not}
+use mathlib.Core.List.{List, [], _∷_, _++_, flatMap, append-assoc, append-nil}
+use Prim.Native.Nat.{ℕ, _+_, _-_, _≤_, _<_}
 use native.Mathlib.Nat.{sub-zero}
-use native.Mathlib.Omega.{arith}
+use borrow.Author.Tests.{le-ltb, lt-ltb, le-leb, lt-leb, eq-eqb, ne-eqb}
+use lib.Dec.{ltb, eqb, lit<}
 use lib.IntN.{ℤ}
 use lib.ListN.{getD}
-use mir.Syntax.{w32}
-use mir.Val.{SFits}
-use Rattle.numbers.specs.Bytes.{number, field}
-use Rattle.numbers.specs.Bits.{digits32}
+use Rattle.numbers.specs.Bytes.{ascii, number}
+use Rattle.numbers.proofs.Truth.{if-same, if-below}
 use Rattle.program.specs.Names.{mnemonics}
 use Rattle.program.specs.Code.{key}
-use Rattle.program.specs.declared.Cell.{Cell}
-use Rattle.image.specs.Layout.{cellCount, labelCount, variableCount, cellAt, variablePlace, startValue}
-use Rattle.image.specs.Code.{labelPlaceOf, variablePlaceOf}
-use Rattle.printing.specs.Listing.{printed, width, plain}
-use Rattle.printing.specs.Code.{packed, packedIn, Put, phraseText, operandText, isThere, nameKey, opening, signText, cellText, labelText, labelTexts, variableText, variableTexts, firstsOf, pastFrom, cellTexts}
-use Rattle.printing.proofs.Packed.{packed-digits, printed-split, plain-positive, plain-negative}
-use Rattle.printing.proofs.Pages.{put-then, put-same, Putting, putting, putting-same, put-all, put-next, put-last, pieces-left, pieces-over}
-use Rattle.printing.proofs.Targets.{name-known}
+use Rattle.image.specs.Layout.{cellCount, labelCount, variableCount, operandAt, cellAt}
+use Rattle.printing.specs.Listing.{plain}
+use Rattle.printing.specs.Code.{packed, packedIn, Put, ifSo, isThere, phraseText, opening, mnemonicKey, endOf, openingText, operandsText, labelText, labelNext, variableText, recordText, variableTexts, firstsOf, cellTexts, imageText}
+use Rattle.printing.proofs.Packed.{packed-none, packed-spaced}
+use Rattle.printing.proofs.Pages.{put-then, put-same, Putting, putting, putting-same, put-all, put-next, pieces-left, pieces-over}
+use Rattle.printing.proofs.Targets.{next-there, cell-there, label-first, cell-first, none-left}
 
-module _ (n : ℕ) {count at next : ℕ} {old new : List ℕ} where
-  -- A number in one word, and in two.
-  pub number-one : {word : ℕ} → count ≡ width n → word ≡ number (printed count n) → Put (packed word) old at next new → Put (printed (width n) n) old at next new
-  number-one c e p = put-same (ap packed e ∙ packed-digits count n ∙ ap (λ (k : ℕ). printed k n) c) p
+-- Two words, and what stands behind them.
+two-words : (first second : ℕ) (text rest : List ℕ) → packed first ++ packed second ≡ text → packed first ++ (packed second ++ rest) ≡ text ++ rest
+two-words first second text rest e = sym (append-assoc (packed first) (packed second) rest) ∙ ap (λ (xs : List ℕ). xs ++ rest) e
 
-  pub number-two : {first second last : ℕ} {mid : List ℕ} → count ≡ width n → 5 < count → first ≡ number (printed (count - 5) (n / 100000)) → second ≡ number (printed 5 n)
-      → Put (packed first) old at last mid → Put (packed second) mid last next new → Put (printed (width n) n) old at next new
-  number-two c h e f p q =
-      let k : count - 5 + 5 ≡ count = omega arith in
-      put-same (sym (printed-split (count - 5) n) ∙ ap (λ (w : ℕ). printed w n) (k ∙ c))
-      (put-then (put-same (ap packed e ∙ packed-digits (count - 5) (n / 100000)) p) (put-same (ap packed f ∙ packed-digits 5 n) q))
+-- One word, and none behind it.
+pub one-word : (word : ℕ) → packed word ++ packed 0 ≡ packed word
+one-word word = ap (λ (xs : List ℕ). packed word ++ xs) packed-none ∙ append-nil (packed word)
 
-module _ (z : ℤ) (f : SFits w32 z) {bits at next : ℕ} {old new : List ℕ} (e : bits ≡ digits32 z) where
-  -- A literal by its bits: without a minus, and with one.
-  pub literal-positive : bits < 2147483648 → Put (printed (width bits) bits) old at next new → Put (plain z) old at next new
-  literal-positive h p = put-same (plain-positive z f e h) p
+end-packed : packed 10 ≡ 10 ∷ []
+unfolding packed packedIn
+end-packed = refl
 
-  pub literal-negative : {mid : List ℕ} {last : ℕ} → 2147483648 ≤ bits → Put (packed 45) old at last mid
-      → Put (printed (width (4294967295 - bits + 1)) (4294967295 - bits + 1)) mid last next new → Put (plain z) old at next new
-  unfolding packed packedIn
-  literal-negative h p q = put-same (plain-negative z f e h) (put-then p q)
+equals-packed : packed 61 ≡ 61 ∷ []
+unfolding packed packedIn
+equals-packed = refl
 
--- A variable's line.
-pub variable-line : (name word : ℕ) (start : ℤ) {mnemonic at next further last : ℕ} {old first second new : List ℕ}
-    → mnemonic ≡ key (getD mnemonics 1 []) → packed word ≡ phraseText mnemonic true name 61
-    → Put (packed word) old at next first → Put (plain start) first next further second → Put (packed 10) second further last new
-    → Put (variableText name start) old at last new
-unfolding variableText packed packedIn
-variable-line name word start m e p q r = put-then (put-same (e ∙ ap (λ (k : ℕ). phraseText k true name 61) m) p) (put-then q r)
+label-front : packed 2114124 ≡ packed (key (getD mnemonics 0 [])) ++ (32 ∷ [])
+unfolding number key mnemonics ascii
+label-front = packed-spaced 76 66 (lit< tt, lit< tt) (lit< tt, lit< tt)
 
--- A cell's line.
-pub cell-line : (s firsts : List ℕ) (c : Cell) (word sign : ℕ) {name at a₁ a₂ a₃ a₄ a₅ : ℕ} {more : Bool} {old p₁ p₂ p₃ p₄ p₅ : List ℕ}
-    → name ≡ nameKey s firsts (c .operation) (c .written) (c .target) → more ≡ isThere (c .left)
-    → packed word ≡ opening (c .operation) name more → packed sign ≡ signText (c .operation) (c .selector)
-    → Put (packed word) old at a₁ p₁ → Put (operandText s (c .left)) p₁ a₁ a₂ p₂ → Put (packed sign) p₂ a₂ a₃ p₃
-    → Put (operandText s (c .right)) p₃ a₃ a₄ p₄ → Put (packed 10) p₄ a₄ a₅ p₅ → Put (cellText s firsts c) old at a₅ p₅
-unfolding cellText packed packedIn
-cell-line s firsts c word sign {name} {at} {a₁} {a₂} {a₃} {a₄} {a₅} {more} n m o g x l y r z =
-    put-then (put-same (o ∙ ap (λ (k : ℕ). opening (c .operation) k more) n ∙ ap (opening (c .operation) (nameKey s firsts (c .operation) (c .written) (c .target))) m) x)
-    (put-then l (put-then (put-same g y) (put-then r z)))
+variable-front : packed 2113878 ≡ packed (key (getD mnemonics 1 [])) ++ (32 ∷ [])
+unfolding number key mnemonics ascii
+variable-front = packed-spaced 86 65 (lit< tt, lit< tt) (lit< tt, lit< tt)
 
--- ---- the loops over labels, variables and cells
+pub label-words : (name : ℕ) → flatMap packed (2114124 ∷ name ∷ 10 ∷ 0 ∷ 0 ∷ 0 ∷ []) ≡ phraseText (key (getD mnemonics 0 [])) true name 10
+unfolding phraseText ifSo flatMap
+label-words name =
+    let m = packed (key (getD mnemonics 0 [])) in
+    ap (λ (xs : List ℕ). packed 2114124 ++ (packed name ++ (packed 10 ++ (xs ++ (xs ++ (xs ++ [])))))) packed-none
+    ∙ ap (λ (xs : List ℕ). packed 2114124 ++ (packed name ++ xs)) (append-nil (packed 10))
+    ∙ ap (λ (xs : List ℕ). xs ++ (packed name ++ packed 10)) label-front
+    ∙ append-assoc m (32 ∷ []) (packed name ++ packed 10)
 
-module _ (s : List ℕ) (k to : ℕ) {whole old page new : List ℕ} {start at next cells place name : ℕ} where
-  pub label-next : {mnemonic : ℕ} (word : ℕ) → k < to → cells ≡ cellCount s → place ≡ labelPlaceOf cells k → name ≡ field 2 place s
-      → mnemonic ≡ key (getD mnemonics 0 []) → packed word ≡ phraseText mnemonic true name 10
-      → Putting whole old start (labelTexts s k to) page at → Put (packed word) page at next new → Putting whole old start (labelTexts s (k + 1) to) new next
-  unfolding labelTexts labelText
-  label-next word h c l n m e p q =
-      put-next (putting-same (pieces-left (labelText s) k to h) p)
-      (put-same
-      (e ∙ ap (λ (i : ℕ). phraseText i true name 10) m
-      ∙ ap (λ (i : ℕ). phraseText (key (getD mnemonics 0 [])) true i 10) (name-known s k c l n))
-      q)
+pub variable-words : (name first second : ℕ) (start : ℤ) → packed first ++ packed second ≡ plain start
+    → flatMap packed (2113878 ∷ name ∷ 61 ∷ first ∷ second ∷ 10 ∷ []) ≡ variableText name start
+unfolding variableText phraseText ifSo flatMap
+variable-words name first second start e =
+    let m = packed (key (getD mnemonics 1 [])) in
+    let rest = plain start ++ (10 ∷ []) in
+    ap (λ (xs : List ℕ). packed 2113878 ++ (packed name ++ (packed 61 ++ (packed first ++ (packed second ++ (xs ++ [])))))) end-packed
+    ∙ ap (λ (xs : List ℕ). packed 2113878 ++ (packed name ++ (packed 61 ++ xs))) (two-words first second (plain start) (10 ∷ []) e)
+    ∙ ap (λ (xs : List ℕ). xs ++ (packed name ++ (packed 61 ++ rest))) variable-front
+    ∙ append-assoc m (32 ∷ []) (packed name ++ (packed 61 ++ rest))
+    ∙ ap (λ (xs : List ℕ). m ++ (32 ∷ xs)) (sym (append-assoc (packed name) (packed 61) rest))
+    ∙ sym (append-assoc m (32 ∷ (packed name ++ packed 61)) rest)
 
-  pub variable-next : {labels : ℕ} {value : ℤ} → k < to → cells ≡ cellCount s → labels ≡ labelCount s → place ≡ variablePlaceOf cells labels k → name ≡ field 2 place s
-      → value ≡ startValue s k → Putting whole old start (variableTexts s k to) page at → Put (variableText name value) page at next new
-      → Putting whole old start (variableTexts s (k + 1) to) new next
-  unfolding variableTexts variablePlace
-  variable-next {labels} h c l v n z p q =
-      put-next (putting-same (pieces-left (λ i. variableText (field 2 (variablePlace s i) s) (startValue s i)) k to h) p)
-      (put-same
-      (ap (variableText name) z
-      ∙ ap (λ (i : ℕ). variableText i (startValue s k))
-      (n ∙ ap (λ (i : ℕ). field 2 i s) (v ∙ ap (λ (i : ℕ). 16 * i + (4 * labels + 8 * k)) c ∙ ap (λ (i : ℕ). 16 * cellCount s + (4 * i + 8 * k)) l)))
-      q)
+pub operands-words : (first second sign third fourth : ℕ) (left signed right : List ℕ) → packed first ++ packed second ≡ left → packed sign ≡ signed
+    → packed third ++ packed fourth ≡ right → flatMap packed (first ∷ second ∷ sign ∷ third ∷ fourth ∷ 10 ∷ []) ≡ left ++ (signed ++ (right ++ (10 ∷ [])))
+unfolding flatMap
+operands-words first second sign third fourth left signed right e s f =
+    two-words first second left (packed sign ++ (packed third ++ (packed fourth ++ (packed 10 ++ [])))) e
+    ∙ ap (λ (xs : List ℕ). left ++ (xs ++ (packed third ++ (packed fourth ++ (packed 10 ++ []))))) s
+    ∙ ap (λ (xs : List ℕ). left ++ (signed ++ xs)) (two-words third fourth right (packed 10 ++ []) f)
+    ∙ ap (λ (xs : List ℕ). left ++ (signed ++ (right ++ (xs ++ [])))) end-packed
 
--- All of them are put.
-pub labels-put : (s : List ℕ) (k to : ℕ) {whole old page : List ℕ} {start at : ℕ} → to ≤ k → Putting whole old start (labelTexts s k to) page at → Put whole old start at page
-unfolding labelTexts
-labels-put s k to h p = put-all (pieces-over (labelText s) k to h) p
+-- The end of an opening, where a statement has a mnemonic and where it has none.
+opened : (operation name : ℕ) (more : Bool)
+    → packed (mnemonicKey operation) ++ (ifSo (ltb 2 operation && (more || not (eqb name 0))) (32 ∷ []) ++ (packed name ++ packed (endOf operation more)))
+    ≡ opening operation name more
+unfolding mnemonicKey endOf opening phraseText ifSo
+opened operation name more =
+    if-below 2 operation
+    (λ h. rw (lt-ltb 2 operation h, lt-leb operation 2 h) refl)
+    (λ h. rw (le-ltb 2 operation h, le-leb operation 2 h, packed-none, equals-packed) refl)
+
+pub opening-words : (operation name space : ℕ) (more : Bool) {mnemonic end : ℕ} → mnemonic ≡ mnemonicKey operation
+    → packed space ≡ ifSo (ltb 2 operation && (more || not (eqb name 0))) (32 ∷ []) → end ≡ endOf operation more
+    → flatMap packed (mnemonic ∷ space ∷ name ∷ end ∷ 0 ∷ 0 ∷ []) ≡ opening operation name more
+unfolding flatMap
+opening-words operation name space more {mnemonic} {end} m s e =
+    ap (λ (xs : List ℕ). packed mnemonic ++ (packed space ++ (packed name ++ (packed end ++ (xs ++ (xs ++ [])))))) packed-none
+    ∙ ap (λ (xs : List ℕ). packed mnemonic ++ (packed space ++ (packed name ++ xs))) (append-nil (packed end))
+    ∙ ap (λ (n : ℕ). packed n ++ (packed space ++ (packed name ++ packed end))) m
+    ∙ ap (λ (xs : List ℕ). packed (mnemonicKey operation) ++ (xs ++ (packed name ++ packed end))) s
+    ∙ ap (λ (n : ℕ). packed (mnemonicKey operation) ++ (ifSo (ltb 2 operation && (more || not (eqb name 0))) (32 ∷ []) ++ (packed name ++ packed n))) e
+    ∙ opened operation name more
+
+-- An operand is there by its shape.
+pub there : (shape place : ℕ) (s : List ℕ) → (eqb shape 1 || eqb shape 2) ≡ isThere (operandAt shape place s)
+unfolding isThere operandAt
+there shape place s =
+    if-same shape 1
+    (λ e. rw (eq-eqb shape 1 e) refl)
+    (λ n. if-same shape 2 (λ e. rw (ne-eqb shape 1 n, eq-eqb shape 2 e) refl) (λ m. rw (ne-eqb shape 1 n, ne-eqb shape 2 m) refl))
+
+-- ---- the loop over variables
+
+module _ (s : List ℕ) (k to : ℕ) {whole old page new : List ℕ} {start at next : ℕ} where
+  pub variable-next : (words : List ℕ) → k < to → flatMap packed words ≡ recordText s k → Putting whole old start (variableTexts s k to) page at
+      → Put (flatMap packed words) page at next new → Putting whole old start (variableTexts s (k + 1) to) new next
+  unfolding variableTexts recordText
+  variable-next words h e p q = put-next (putting-same (pieces-left (recordText s) k to h) p) (put-same e q)
 
 pub variables-put : (s : List ℕ) (k to : ℕ) {old page : List ℕ} {at : ℕ} → to ≡ variableCount s → to ≤ k
     → Putting (variableTexts s 0 to) old 0 (variableTexts s k to) page at → Put (variableTexts s 0 (variableCount s)) old 0 at page
-unfolding variableTexts
-variables-put s k to e h p =
-    put-same (ap (variableTexts s 0) e) (put-all (pieces-over (λ i. variableText (field 2 (variablePlace s i) s) (startValue s i)) k to h) p)
+unfolding variableTexts recordText
+variables-put s k to e h p = put-same (ap (variableTexts s 0) e) (put-all (pieces-over (recordText s) k to h) p)
 
--- All cells, a cell behind its labels, and the labels behind the last cell.
-pub cells-first : (s : List ℕ) (end : ℕ) (old : List ℕ) (start : ℕ) → Putting (cellTexts s end 0 0) old start (cellTexts s (end - 0) 0 0) old start
-cells-first s end old start = putting-same (ap (λ (n : ℕ). cellTexts s n 0 0) (sym (sub-zero end))) (putting (cellTexts s end 0 0) old start)
+-- ---- the loop over labels and cells
 
-pub cells-next : (s : List ℕ) (k end label : ℕ) {firsts whole old page p₁ p₂ : List ℕ} {start at a₁ a₂ next : ℕ} {c : Cell}
-    → k < end → firsts ≡ firstsOf s → next ≡ pastFrom s k (labelCount s - label) label → c ≡ cellAt s k
-    → Putting whole old start (cellTexts s (end - k) k label) page at → Put (labelTexts s label next) page at a₁ p₁ → Put (cellText s firsts c) p₁ a₁ a₂ p₂
-    → Putting whole old start (cellTexts s (end - (k + 1)) (k + 1) next) p₂ a₂
-unfolding cellTexts
-cells-next s k end label {firsts} {c = c} h f n e p q r =
-    let a : end - k ≡ suc (end - (k + 1)) = omega arith in
-    let b : k + 1 ≡ suc k = omega arith in
-    put-next (put-next (putting-same (rw (a, b, n, f, e) refl) p) q) r
+pub cells-first : (s : List ℕ) (old : List ℕ) (start : ℕ) → Putting (cellTexts s (cellCount s) 0 0) old start (cellTexts s (cellCount s - 0) 0 0) old start
+cells-first s old start = putting-same (ap (λ (n : ℕ). cellTexts s n 0 0) (sym (sub-zero (cellCount s)))) (putting (cellTexts s (cellCount s) 0 0) old start)
 
-pub cells-put : (s : List ℕ) (k end label : ℕ) {labels : ℕ} {old page new : List ℕ} {start at next : ℕ} → end ≡ cellCount s → labels ≡ labelCount s → end ≤ k
-    → Putting (cellTexts s end 0 0) old start (cellTexts s (end - k) k label) page at → Put (labelTexts s label labels) page at next new
-    → Put (cellTexts s (cellCount s) 0 0) old start next new
-unfolding cellTexts
-cells-put s k end label e l h p q =
-    let a : end - k ≡ 0 = omega arith in
-    put-same (ap (λ (n : ℕ). cellTexts s n 0 0) e)
-    (put-last (putting-same (ap (λ (n : ℕ). cellTexts s n k label) a) p) (put-same (ap (labelTexts s label) l) q))
+module _ (s : List ℕ) (label cell : ℕ) {cells labels : ℕ} {test : Bool} (c : cells ≡ cellCount s) (l : labels ≡ labelCount s) (t : test ≡ labelNext s label cell) where
+  pub label-there : test ≡ true → label < labels
+  label-there e = rw l (next-there s label cell (sym t ∙ e))
+
+  pub cell-here : test ≡ false → (ltb cell cells || ltb label labels) ≡ true → cell < cells
+  cell-here e h = rw c (cell-there s label cell (sym t ∙ e) (rw (c, l) at h))
+
+  module _ {whole old page : List ℕ} {start at : ℕ} (p : Putting whole old start (cellTexts s (cellCount s - cell) cell label) page at) where
+    -- The line of a label, that of a cell in two halves, and no more.
+    pub label-put : (words : List ℕ) {new : List ℕ} {next : ℕ} → test ≡ true → flatMap packed words ≡ labelText s label → Put (flatMap packed words) page at next new
+        → Putting whole old start (cellTexts s (cellCount s - cell) cell (label + 1)) new next
+    label-put words e w q = put-next (putting-same (label-first s label cell (sym t ∙ e)) p) (put-same w q)
+
+    pub cell-put : (words more : List ℕ) {firsts mid new : List ℕ} {further next : ℕ} → test ≡ false → (ltb cell cells || ltb label labels) ≡ true → firsts ≡ firstsOf s
+        → flatMap packed words ≡ openingText s firsts (cellAt s cell) → flatMap packed more ≡ operandsText s (cellAt s cell)
+        → Put (flatMap packed words) page at further mid → Put (flatMap packed more) mid further next new
+        → Putting whole old start (cellTexts s (cellCount s - (cell + 1)) (cell + 1) label) new next
+    cell-put words more {firsts} e h f w m q r =
+        let there : cell < cellCount s = cell-there s label cell (sym t ∙ e) (rw (c, l) at h) in
+        put-next (put-next (putting-same (cell-first s label cell (sym t ∙ e) there) p) (put-same (w ∙ ap (λ (keys : List ℕ). openingText s keys (cellAt s cell)) f) q)) (put-same m r)
+
+-- All lines are put: those of the variables, and behind them those of labels and cells.
+pub lines-put : (s : List ℕ) (label cell : ℕ) {cells labels first at : ℕ} {old mid page : List ℕ} → cells ≡ cellCount s → labels ≡ labelCount s
+    → (ltb cell cells || ltb label labels) ≡ false → Put (variableTexts s 0 (variableCount s)) old 0 first mid
+    → Putting (cellTexts s (cellCount s) 0 0) mid first (cellTexts s (cellCount s - cell) cell label) page at → Put (imageText s) old 0 at page
+unfolding imageText
+lines-put s label cell c l h p q = put-then p (put-all (none-left s label cell (rw (c, l) at h)) q)

@@ -1,18 +1,20 @@
--- The labels of an image as the code goes over them: the first of each target, the first past a cell.
+-- The labels of an image as the code goes over them: the first of each target, and whether a label or a cell comes next.
 -- Assumes nothing.
 use mathlib.Core.Path.{_≡_, refl, sym, ap, _∙_}
-use mathlib.Core.Bool.{cond}
-use mathlib.Core.List.{List}
+use mathlib.Core.Bool.{true, false, _||_, true≢false}
+use mathlib.Core.List.{List, [], _++_, append-assoc}
 use Prim.Native.Nat.{ℕ, zero, suc, _+_, _*_, _-_, _≤_, _<_}
 use native.Mathlib.Omega.{arith}
-use borrow.Author.Tests.{lt-ltb, le-ltb}
+use borrow.Author.Tests.{ltb-false, lt-ltb, le-ltb, lt-leb, le-leb}
 use lib.Dec.{ltb}
 use lib.ListN.{length, set, length-set, replicate, length-replicate}
 use lib.Seq.{set-out}
 use Rattle.numbers.specs.Bytes.{field}
-use Rattle.image.specs.Layout.{cellCount, labelCount, labelPlace, labelTarget}
+use Rattle.numbers.proofs.Truth.{neither, if-below, of-both}
+use Rattle.image.specs.Layout.{cellCount, labelCount, cellAt, labelPlace, labelTarget}
 use Rattle.image.specs.Code.{labelPlaceOf, targetOf}
-use Rattle.printing.specs.Code.{firstsFrom, firstsOf, pastFrom}
+use Rattle.printing.specs.Code.{cellText, openingText, operandsText, labelText, labelTexts, labelNext, firstsFrom, firstsOf, pastFrom, cellTexts}
+use Rattle.printing.proofs.Pages.{pieces-left, pieces-over}
 
 -- Places by the count of cells.
 place-known : (s : List ℕ) (k : ℕ) {cells place : ℕ} → cells ≡ cellCount s → place ≡ labelPlaceOf cells k → place ≡ labelPlace s k
@@ -59,29 +61,91 @@ pub entered-all : {s firsts : List ℕ} {k : ℕ} → Entering s firsts k → k 
 unfolding firstsFrom
 entered-all {s} {firsts} {k} n h = let e : k ≡ 0 = omega arith in sym (ap (λ (i : ℕ). firstsFrom s i firsts) e) ∙ n .whole
 
-pub firsts-long : (s : List ℕ) → length (firstsOf s) ≡ 257
-unfolding firstsOf firstsFrom
-firsts-long s = kept (labelCount s) (replicate 257 0) ∙ length-replicate {A = ℕ} 257 0 where
-  kept : (k : ℕ) (keys : List ℕ) → length (firstsFrom s k keys) ≡ length keys
-  kept zero keys = refl
-  kept (suc k) keys = kept k (set keys (labelTarget s k) (field 2 (labelPlace s k) s)) ∙ length-set keys (labelTarget s k) (field 2 (labelPlace s k) s)
+-- ---- what comes next: a label or a cell
 
--- ---- the first label past a cell
+module _ (s : List ℕ) (label cell : ℕ) where
+  -- A label that comes next is there, and leads to this cell or to one before it, or stands behind the last cell.
+  pub next-there : labelNext s label cell ≡ true → label < labelCount s
+  unfolding labelNext
+  next-there e = if-below label (labelCount s) (λ h. h) (λ h. absurd (true≢false (sym e ∙ rw (le-ltb label (labelCount s) h) refl)))
 
-module _ (s : List ℕ) (cell k : ℕ) {labels target : ℕ} where
-  pub past-here : k < labels → target ≡ labelTarget s k → cell < target → k ≡ pastFrom s cell (labels - k) k
+  next-here : labelNext s label cell ≡ true → cell < cellCount s → labelTarget s label ≤ cell
+  unfolding labelNext
+  next-here e c =
+      if-below cell (labelTarget s label)
+      (λ h. absurd (true≢false (sym e ∙ rw (lt-ltb label (labelCount s) (next-there e), lt-leb (cellCount s) cell c, lt-leb (labelTarget s label) cell h) refl)))
+      (λ h. h)
+
+  -- Where no label comes next, and there is a cell or a label, there is a cell.
+  pub cell-there : labelNext s label cell ≡ false → (ltb cell (cellCount s) || ltb label (labelCount s)) ≡ true → cell < cellCount s
+  unfolding labelNext
+  cell-there e t =
+      if-below cell (cellCount s) (λ l. l)
+      (λ l. if-below label (labelCount s)
+      (λ g. absurd (true≢false (sym (rw (lt-ltb label (labelCount s) g, le-leb (cellCount s) cell l) refl) ∙ e)))
+      (λ g. absurd (true≢false (sym t ∙ rw (le-ltb cell (cellCount s) l, le-ltb label (labelCount s) g) refl))))
+
+  past-none : labelNext s label cell ≡ false → cell < cellCount s → pastFrom s cell (labelCount s - label) label ≡ label
+  unfolding labelNext pastFrom
+  past-none e c =
+      if-below label (labelCount s)
+      (λ h. let n : labelCount s - label ≡ suc (labelCount s - suc label) = omega arith in
+      if-below cell (labelTarget s label)
+      (λ g. rw (n, lt-ltb cell (labelTarget s label) g) refl)
+      (λ g. absurd (true≢false (sym (rw (lt-ltb label (labelCount s) h, lt-leb (cellCount s) cell c, le-leb (labelTarget s label) cell g) refl) ∙ e))))
+      (λ h. let n : labelCount s - label ≡ 0 = omega arith in rw n refl)
+
+  past-one : labelNext s label cell ≡ true → cell < cellCount s
+      → pastFrom s cell (labelCount s - label) label ≡ pastFrom s cell (labelCount s - suc label) (suc label)
   unfolding pastFrom
-  past-here h t l =
-      let e : labels - k ≡ suc (labels - (k + 1)) = omega arith in
-      rw (e, lt-ltb cell (labelTarget s k) (omega arith)) refl
+  past-one e c =
+      let h = next-there e in
+      let n : labelCount s - label ≡ suc (labelCount s - suc label) = omega arith in
+      rw (n, le-ltb cell (labelTarget s label) (next-here e c)) refl
 
-  pub past-more : k < labels → target ≡ labelTarget s k → target ≤ cell → pastFrom s cell (labels - k) k ≡ pastFrom s cell (labels - (k + 1)) (k + 1)
-  unfolding pastFrom
-  past-more h t l =
-      let e : labels - k ≡ suc (labels - (k + 1)) = omega arith in
-      let one : k + 1 ≡ suc k = omega arith in
-      rw (e, one, le-ltb cell (labelTarget s k) (omega arith)) refl
-
-pub past-all : (s : List ℕ) (cell : ℕ) {labels k : ℕ} → labels ≤ k → k ≡ pastFrom s cell (labels - k) k
+past-from : (s : List ℕ) (cell n k : ℕ) → k ≤ pastFrom s cell n k
 unfolding pastFrom
-past-all s cell {labels} {k} h = let e : labels - k ≡ 0 = omega arith in rw e refl
+past-from s cell zero k = omega arith
+past-from s cell (suc n) k = let h = past-from s cell n (suc k) in of-both (λ (i : ℕ). k ≤ i) (ltb cell (labelTarget s k)) (omega arith) (omega arith)
+
+labels-none : (s : List ℕ) (label : ℕ) → labelTexts s label label ≡ []
+unfolding labelTexts
+labels-none s label = pieces-over (labelText s) label label (omega arith)
+
+module _ (s : List ℕ) (label cell : ℕ) where
+  -- The line of a label comes first; that of a cell; nothing is left.
+  pub label-first : labelNext s label cell ≡ true
+      → cellTexts s (cellCount s - cell) cell label ≡ labelText s label ++ cellTexts s (cellCount s - cell) cell (label + 1)
+  unfolding cellTexts labelTexts
+  label-first e =
+      let one : label + 1 ≡ suc label = omega arith in
+      let l = next-there s label cell e in
+      if-below cell (cellCount s)
+      (λ c. let n : cellCount s - cell ≡ suc (cellCount s - suc cell) = omega arith in
+      let next = pastFrom s cell (labelCount s - suc label) (suc label) in
+      let h = past-from s cell (labelCount s - suc label) (suc label) in
+      let rest = cellText s (firstsOf s) (cellAt s cell) ++ cellTexts s (cellCount s - suc cell) (suc cell) next in
+      let first : labelTexts s label next ≡ labelText s label ++ labelTexts s (label + 1) next = pieces-left (labelText s) label next (omega arith) in
+      rw (n, one, past-one s label cell e c)
+      (ap (λ (xs : List ℕ). xs ++ rest) (rw one at first) ∙ append-assoc (labelText s label) (labelTexts s (suc label) next) rest))
+      (λ c. let n : cellCount s - cell ≡ 0 = omega arith in rw n (pieces-left (labelText s) label (labelCount s) l))
+
+  pub cell-first : labelNext s label cell ≡ false → cell < cellCount s
+      → cellTexts s (cellCount s - cell) cell label ≡ openingText s (firstsOf s) (cellAt s cell) ++ (operandsText s (cellAt s cell) ++ cellTexts s (cellCount s - (cell + 1)) (cell + 1) label)
+  unfolding cellTexts cellText openingText operandsText
+  cell-first e c =
+      let one : cell + 1 ≡ suc cell = omega arith in
+      let n : cellCount s - cell ≡ suc (cellCount s - suc cell) = omega arith in
+      let rest = cellTexts s (cellCount s - suc cell) (suc cell) label in
+      let o = openingText s (firstsOf s) (cellAt s cell) in
+      let p = operandsText s (cellAt s cell) in
+      rw (n, one, past-none s label cell e c)
+      (ap (λ (xs : List ℕ). xs ++ ((o ++ p) ++ rest)) (labels-none s label) ∙ append-assoc o p rest)
+
+pub none-left : (s : List ℕ) (label cell : ℕ) → (ltb cell (cellCount s) || ltb label (labelCount s)) ≡ false → cellTexts s (cellCount s - cell) cell label ≡ []
+unfolding cellTexts labelTexts
+none-left s label cell t =
+    let both = neither (ltb cell (cellCount s)) (ltb label (labelCount s)) t in
+    let c = ltb-false cell (cellCount s) (both .0) in
+    let n : cellCount s - cell ≡ 0 = omega arith in
+    rw n (pieces-over (labelText s) label (labelCount s) (ltb-false label (labelCount s) (both .1)))

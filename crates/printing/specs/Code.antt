@@ -44,6 +44,10 @@ unfoldable pub digitsOnto : ℕ → ℕ → ℕ → ℕ
 digitsOnto zero n word = word
 digitsOnto (suc w) n word = digitsOnto w (n / 10) (word * 256 + (48 + n % 10))
 
+-- A number of digits, but no fewer than asked for.
+unfoldable pub atLeast : ℕ → ℕ → ℕ
+atLeast least width = cond (ltb width least) least width
+
 -- Bytes where a test holds, and else none.
 unfoldable pub ifSo : Bool → List ℕ → List ℕ
 ifSo test xs = cond test xs []
@@ -110,6 +114,24 @@ cellText s firsts c =
     opening (c .operation) (nameKey s firsts (c .operation) (c .written) (c .target)) (isThere (c .left))
     ++ (operandText s (c .left) ++ (signText (c .operation) (c .selector) ++ (operandText s (c .right) ++ (10 ∷ []))))
 
+-- The two halves of it: what stands before the operands; the operands, and the end of the line.
+unfoldable pub openingText : List ℕ → List ℕ → Cell → List ℕ
+openingText s firsts c = opening (c .operation) (nameKey s firsts (c .operation) (c .written) (c .target)) (isThere (c .left))
+
+unfoldable pub operandsText : List ℕ → Cell → List ℕ
+operandsText s c = operandText s (c .left) ++ (signText (c .operation) (c .selector) ++ (operandText s (c .right) ++ (10 ∷ [])))
+
+-- The name for a statement with this operation whose cell stands at this place.
+unfoldable pub nameAfter : List ℕ → List ℕ → ℕ → ℕ → ℕ
+nameAfter s firsts operation place = nameKey s firsts operation (field 1 (place + 1) s) (field 2 (place + 12) s)
+
+-- The parts of an opening: the mnemonic, and what ends it.
+unfoldable pub mnemonicKey : ℕ → ℕ
+mnemonicKey operation = cond (leb operation 2) 0 (key (getD mnemonics (operation - 1) []))
+
+unfoldable pub endOf : ℕ → Bool → ℕ
+endOf operation more = cond (leb operation 2) 61 (commaIf (more && jumps operation))
+
 -- The line of a label, and those of the labels from one to before another.
 unfoldable pub labelText : List ℕ → ℕ → List ℕ
 labelText s k = phraseText (key (getD mnemonics 0 [])) true (field 2 (labelPlace s k) s) 10
@@ -123,6 +145,14 @@ variableText name start = phraseText (key (getD mnemonics 1 [])) true name 61 ++
 
 unfoldable pub variableTexts : List ℕ → ℕ → ℕ → List ℕ
 variableTexts s from to = flatMap (λ k. variableText (field 2 (variablePlace s k) s) (startValue s k)) (listed from (to - from) (λ k. k))
+
+-- That of the variable record with this number.
+unfoldable pub recordText : List ℕ → ℕ → List ℕ
+recordText s k = variableText (field 2 (variablePlace s k) s) (startValue s k)
+
+-- A label comes before a cell: one that is there, with a target not past the cell, or any behind the last cell.
+unfoldable pub labelNext : List ℕ → ℕ → ℕ → Bool
+labelNext s label cell = ltb label (labelCount s) && (leb (cellCount s) cell || leb (labelTarget s label) cell)
 
 -- Of n labels from label k on the first whose target is past this cell, or the one behind them.
 unfoldable pub pastFrom : List ℕ → ℕ → ℕ → ℕ → ℕ

@@ -1,10 +1,12 @@
-// The labels of an image: on a page, and by their targets.
+// The labels of an image: their lines, which come next, and the first of each target.
 ghost use mathlib.Core.Path.{_≡_};
-ghost use Prim.Native.Nat.{_-_};
-ghost use Rattle.image.specs.Layout.{labelCount};
-ghost use Rattle.printing.specs.Code.{Put, firstsOf, pastFrom, labelTexts};
+ghost use mathlib.Core.List.{flatMap};
+ghost use Rattle.printing.specs.Code.{packed, firstsOf, labelText, labelNext};
 use crate::words;
-use program::names;
+use crate::words::Words;
+
+// `LB` and a space.
+const LB: u64 = 2114124;
 
 // How many targets there are: each cell, and the place behind the last.
 pub const TARGETS: usize = 257;
@@ -29,32 +31,21 @@ pub fn firsts(image: &[u8]) -> Firsts
     firsts
 }
 
-// The first label, from `from` on, whose target is past this cell; or the number of labels.
-pub fn past(image: &[u8], from: u16, cell: u16) -> u16
-    ensures { λ r. ⌜ r ≡ pastFrom (now (image .entry)) cell (labelCount (now (image .entry)) - from) from ⌝ }
+// A label comes before a cell: one that is there, with a target not past the cell, or any behind the last cell.
+pub fn is_next(image: &[u8], label: u16, cell: u16) -> bool
+    ensures { λ r. ⌜ r ≡ labelNext (now (image .entry)) label cell ⌝ }
 {
-    let cells = image::cell_count(image);
-    let labels = image::label_count(image);
-    let mut k = from;
-    while k < labels {
-        if cell < image::target_at(image, cells, k) {
-            return k;
-        }
-        k += 1;
+    if image::label_count(image) <= label {
+        return false;
     }
-    k
+    let cells = image::cell_count(image);
+    (cells <= cell) | (image::target_at(image, cells, label) <= cell)
 }
 
-// The lines of the labels from one to before another.
-pub fn put(image: &[u8], page: &mut [u8], start: usize, from: u16, to: u16) -> usize
-    ensures { λ r. ⌜ Put (labelTexts (now (image .entry)) from to) (now (page .entry)) start r (now (page .exit)) ⌝ }
+// The line of a label.
+pub fn line(image: &[u8], label: u16) -> Words
+    ensures { λ r. ⌜ flatMap packed r ≡ labelText (now (image .entry)) label ⌝ }
 {
-    let cells = image::cell_count(image);
-    let mnemonic = names::mnemonic(names::LB);
-    let mut at = start;
-    for k in from..to {
-        let name = numbers::read2(image, image::label_place(cells, k));
-        at = words::put(page, at, words::phrase(mnemonic, true, name, words::END));
-    }
-    at
+    let place = image::label_place(image::cell_count(image), label);
+    [LB, numbers::read2(image, place) as u64, words::END, 0, 0, 0]
 }

@@ -1,25 +1,41 @@
 // The listing of an image, written: it is put together on a page first, so that nothing is written where there is no room.
 ghost use mathlib.Core.Path.{_≡_};
+ghost use mathlib.Core.List.{flatMap};
 ghost use Prim.Native.Nat.{_≤_};
 ghost use lib.ListN.{length, take};
-ghost use lib.Seq.{sets};
 ghost use Rattle.program.specs.Code.{key};
-ghost use Rattle.image.specs.Layout.{cellCount, variableCount};
+ghost use Rattle.image.specs.Layout.{variableCount, variablePlace};
 ghost use Rattle.printing.specs.Listing.{variableName};
-ghost use Rattle.printing.specs.Code.{Put, variableText, variableTexts, cellTexts, imageText, ifRoom};
+ghost use Rattle.printing.specs.Code.{packed, Put, recordText, variableTexts, firstsOf, imageText, ifRoom};
 
 mod labels;
 mod statements;
 mod words;
 
 use program::Variable;
-use program::names;
+use words::Words;
+
+// What does not fit into one word.
+struct Two {
+    first: u64,
+    second: u64,
+}
 
 // The most bytes that a listing has.
 pub const LONGEST: usize = 9472;
 
 // The number of the first variable of the user's.
 const FIRST_USER: u8 = Variable::FIRST_USER as u8;
+
+// `VA` and a space.
+const VA: u64 = 2113878;
+
+// Where the variable record with this number stands.
+fn variable_place(image: &[u8], number: u16) -> usize
+    ensures { λ r. ⌜ (r ≡ variablePlace (now (image .entry)) number) × (r ≤ 1834980) ⌝ }
+{
+    image::variable_place(image::cell_count(image), image::label_count(image), number)
+}
 
 // The key of the name of an image's variable: the paper's, or that of its record.
 pub fn variable_key(image: &[u8], number: u8) -> u16
@@ -28,67 +44,72 @@ pub fn variable_key(image: &[u8], number: u8) -> u16
     if number < FIRST_USER {
         return Variable(number as u32).key();
     }
-    let cells = image::cell_count(image);
-    let labels = image::label_count(image);
-    let place = image::variable_place(cells, labels, (number - FIRST_USER) as u16);
-    numbers::read2(image, place)
+    numbers::read2(image, variable_place(image, (number - FIRST_USER) as u16))
 }
 
 // The line of a variable record.
-fn put_variable(page: &mut [u8], at: usize, name: u16, start: i32) -> usize
-    ensures { λ r. ⌜ Put (variableText name start) (now (page .entry)) at r (now (page .exit)) ⌝ }
+fn variable_line(image: &[u8], number: u16) -> Words
+    ensures { λ r. ⌜ flatMap packed r ≡ recordText (now (image .entry)) number ⌝ }
 {
-    let mnemonic = names::mnemonic(names::VA);
-    let mut next = words::put(page, at, words::phrase(mnemonic, true, name, words::EQUALS));
-    next = words::put_literal(page, next, start);
-    words::put(page, next, words::END as u64)
+    let place = variable_place(image, number);
+    let name = numbers::read2(image, place);
+    let start = words::literal(numbers::read4(image, place + image::START_VALUE));
+    [
+        VA,
+        name as u64,
+        words::EQUALS,
+        start.first,
+        start.second,
+        words::END,
+    ]
 }
 
 // The lines of all variable records.
 fn put_variables(image: &[u8], page: &mut [u8]) -> usize
     ensures { λ r. ⌜ Put (variableTexts (now (image .entry)) 0 (variableCount (now (image .entry)))) (now (page .entry)) 0 r (now (page .exit)) ⌝ }
 {
-    let cells = image::cell_count(image);
-    let labels = image::label_count(image);
     let mut at: usize = 0;
     for k in 0..image::variable_count(image) {
-        let name = numbers::read2(image, image::variable_place(cells, labels, k));
-        at = put_variable(page, at, name, image::start_value(image, k));
+        at = words::put(page, at, variable_line(image, k));
     }
     at
 }
 
-// The lines of all cells, each behind the labels that lead to it, and of the labels behind the last cell.
-fn put_cells(image: &[u8], page: &mut [u8], start: usize) -> usize
-    ensures { λ r. ⌜ Put (cellTexts (now (image .entry)) (cellCount (now (image .entry))) 0 0) (now (page .entry)) start r (now (page .exit)) ⌝ }
+// All lines: those of the variables, and then of cells and labels, whichever comes next.
+fn put_lines(image: &[u8], firsts: &[u16], page: &mut [u8]) -> usize
+    requires { ⌜ now firsts ≡ firstsOf (now image) ⌝ }
+    ensures { λ r. ⌜ Put (imageText (now (image .entry))) (now (page .entry)) 0 r (now (page .exit)) ⌝ }
 {
-    let firsts = labels::firsts(image);
-    let mut at = start;
+    let cells = image::cell_count(image);
+    let labels = image::label_count(image);
+    let mut at = put_variables(image, page);
     let mut label: u16 = 0;
-    for k in 0..image::cell_count(image) {
-        let next = labels::past(image, label, k);
-        at = labels::put(image, page, at, label, next);
-        at = statements::put_cell(image, &firsts, page, at, image::cell_at(image, k));
-        label = next;
+    let mut cell: u16 = 0;
+    while (cell < cells) | (label < labels) {
+        if labels::is_next(image, label, cell) {
+            at = words::put(page, at, labels::line(image, label));
+            label += 1;
+        } else {
+            at = words::put(page, at, statements::opening(image, firsts, cell));
+            at = words::put(page, at, statements::operands(image, cell));
+            cell += 1;
+        }
     }
-    labels::put(image, page, at, label, image::label_count(image))
+    at
 }
 
-// Copies what a page holds to the front of a buffer, as far as there is room.
-fn copy(page: &[u8], held: usize, to: &mut [u8])
-    ensures { λ r. ⌜ now (to .exit) ≡ sets (now (to .entry)) 0 (take held (now (page .entry))) ⌝ }
+// Copies what a page holds to the front of a buffer, if there is room; and tells how much that is.
+fn give(page: &[u8], held: usize, text: &mut [u8]) -> usize
+    requires { ⌜ held ≤ length (now page) ⌝ }
+    ensures { λ r. ⌜ (r ≡ held) × (now (text .exit) ≡ ifRoom (take held (now (page .entry))) (now (text .entry))) ⌝ }
 {
-    let mut i: usize = 0;
-    while i < to.len() {
-        if held <= i {
-            return;
-        }
-        if page.len() <= i {
-            return;
-        }
-        to[i] = page[i];
-        i += 1;
+    if text.len() < held {
+        return held;
     }
+    for i in 0..held {
+        text[i] = page[i];
+    }
+    held
 }
 
 // The listing of an image, no longer than the longest, to the front of a buffer if there is room; and its length.
@@ -96,12 +117,8 @@ pub fn write_listing(image: &[u8], text: &mut [u8]) -> usize
     requires { ⌜ length (imageText (now image)) ≤ 9472 ⌝ }
     ensures { λ r. ⌜ (r ≡ length (imageText (now (image .entry)))) × (now (text .exit) ≡ ifRoom (imageText (now (image .entry))) (now (text .entry))) ⌝ }
 {
+    let firsts = labels::firsts(image);
     let mut page = [0u8; LONGEST];
-    let cells_at = put_variables(image, &mut page);
-    let length = put_cells(image, &mut page, cells_at);
-    if text.len() < length {
-        return length;
-    }
-    copy(&page, length, text);
-    length
+    let length = put_lines(image, &firsts, &mut page);
+    give(&page, length, text)
 }

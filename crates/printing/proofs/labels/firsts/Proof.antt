@@ -1,7 +1,6 @@
 -- `firsts` meets its contract. The loop's invariant: entering the records that are left gives the whole.
 -- Assumes nothing.
 use native.Mathlib.Omega.{arith}
-use borrow.Author.Needs.{needs}
 use Rattle.printing.proofs.Targets.{name-known, target-known, Entering, entering, entering-more, entering-past, entered-all}
 use Rattle.printing.proofs.labels.firsts.Statement.{statement}
 use Rattle.printing.proofs.labels.firsts.Tie as tie
@@ -37,18 +36,18 @@ firsts-spec =
     (tie.spec
     Inv-loop
     μ-loop
-    (search needs)
-    (search needs)
+    (λ c κs. tt)
+    (λ c κs. tt)
     loop-holds
-    (search needs)
-    (search needs)
-    (search needs)
-    (search needs)
-    (search needs)
-    (search needs)
-    (search needs)
-    (search needs)
+    (λ c. omega arith)
+    (λ c κs. tt)
+    (λ c. omega arith)
+    (λ c κs. tt)
+    (λ c κs. tt)
+    (λ c. omega arith)
+    (λ c. omega arith)
+    (λ c. omega arith)
     loop-again
-    (search needs)
+    (λ c. omega arith)
     loop-again-2
     returns)

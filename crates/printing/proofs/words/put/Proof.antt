@@ -1,48 +1,41 @@
--- `put` meets its contract. The loop's invariant: what is left of the word, put from here on, gives the whole.
+-- `put` meets its contract. The loop's invariant: what is left of the words, put from here on, gives the whole.
 -- Assumes nothing.
-use mathlib.Core.Path.{ap, _∙_}
+use Prim.Native.Nat.{_+_}
 use native.Mathlib.Omega.{arith}
-use Rattle.printing.specs.Code.{packed}
-use Rattle.printing.proofs.Packed.{packed-none, packed-more}
-use Rattle.printing.proofs.Pages.{Putting, putting, putting-same, put-all, put-out, put-next, put-byte}
+use lib.ListN.{drop}
+use Rattle.printing.proofs.Pages.{leftOf, left-less, Wording, wording, word-byte, word-next, words-put, words-out}
 use Rattle.printing.proofs.words.put.Statement.{statement}
 use Rattle.printing.proofs.words.put.Tie as tie
 
 abbrev Inv-loop : tie.InvT-loop
-Inv-loop page₀ at word i₀ rest₀ page i rest = Putting (packed word) page₀ at (packed rest) page i
+Inv-loop page₀ at words i₀ rest₀ k₀ page i rest k = Wording words page₀ at rest k page i
 
 abbrev μ-loop : tie.MeasureT-loop
-μ-loop page₀ at word i₀ rest₀ page i rest = rest
+μ-loop page₀ at words i₀ rest₀ k₀ page i rest k = leftOf (drop k words) + rest
 
 loop-holds : tie.Need-loop-holds Inv-loop μ-loop
-loop-holds c = putting _ _ _
-
-same-length : tie.Need-same-length Inv-loop μ-loop
-same-length c = c .before .before .loop .inv .size
-
-returns : tie.Need-returns Inv-loop μ-loop
-returns c = put-all (ap packed (c .if1 .taken) ∙ packed-none) (c .before .before .loop .inv)
-
-cast-page : tie.Need-cast-page Inv-loop μ-loop
-cast-page c = omega arith
-
-slice-write-page : tie.Need-slice-write-page Inv-loop μ-loop
-slice-write-page c = omega arith
-
-add-i : tie.Need-add-i Inv-loop μ-loop
-add-i c = omega arith
-
-loop-less : tie.Need-loop-less Inv-loop μ-loop
-loop-less c = omega arith
+loop-holds c = wording _ _ _
 
 loop-again : tie.Need-loop-again Inv-loop μ-loop
-loop-again c = put-next (putting-same (packed-more _ (λ e. omega arith)) (c .before .before .loop .inv)) (put-byte (omega arith))
+loop-again c = word-byte (c .before .before .loop .inv) (λ e. omega arith) (omega arith)
+
+same-length : tie.Need-same-length Inv-loop μ-loop
+same-length c = c .before .before .before .loop .inv .left .size
+
+returns : tie.Need-returns Inv-loop μ-loop
+returns c = let l = c .before .before .before in words-put (l .loop .inv) (omega arith) (omega (arith, l .before .good .1 .1 .0 .1 .0 .1))
+
+loop-less-2 : tie.Need-loop-less-2 Inv-loop μ-loop
+loop-less-2 c = let l = c .before .before .before in left-less (l .before .args .t3) (l .loop .k) (l .loop .rest) (omega (arith, l .before .good .1 .1 .0 .1 .0 .1))
+
+loop-again-2 : tie.Need-loop-again-2 Inv-loop μ-loop
+loop-again-2 c = let l = c .before .before .before in word-next (l .loop .inv) (omega arith) (omega (arith, l .before .good .1 .1 .0 .1 .0 .1))
 
 same-length-2 : tie.Need-same-length-2 Inv-loop μ-loop
-same-length-2 c = c .before .loop .inv .size
+same-length-2 c = c .before .loop .inv .left .size
 
 returns-2 : tie.Need-returns-2 Inv-loop μ-loop
-returns-2 c = put-out (omega arith) (c .before .loop .inv)
+returns-2 c = words-out (c .before .loop .inv) (omega arith)
 
 pub put-spec : {M : Type 1} → statement M
 put-spec =
@@ -51,12 +44,17 @@ put-spec =
     Inv-loop
     μ-loop
     loop-holds
+    (λ c. omega arith)
+    (λ c. omega arith)
+    (λ c. omega arith)
+    (λ c. omega arith)
+    loop-again
     same-length
     returns
-    cast-page
-    slice-write-page
-    add-i
-    loop-less
-    loop-again
+    (λ c. omega arith)
+    (λ c. omega arith)
+    (λ c. omega arith)
+    loop-less-2
+    loop-again-2
     same-length-2
     returns-2)

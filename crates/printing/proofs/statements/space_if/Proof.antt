@@ -2,8 +2,8 @@
 -- Assumes nothing.
 use mathlib.Core.Path.{refl}
 use Rattle.printing.specs.Code.{packed, packedIn, ifSo}
-use Rattle.printing.proofs.words.space_if.Statement.{statement}
-use Rattle.printing.proofs.words.space_if.Tie as tie
+use Rattle.printing.proofs.statements.space_if.Statement.{statement}
+use Rattle.printing.proofs.statements.space_if.Tie as tie
 
 returns : tie.Need-returns
 unfolding packed packedIn ifSo
@@ -14,4 +14,6 @@ unfolding packed packedIn ifSo
 returns-2 c = rw (c .if1 .left) refl
 
 pub space-if-spec : {M : Type 1} → statement M
-space-if-spec = tie.close (tie.spec returns returns-2)
+space-if-spec = tie.close (tie.spec
+    returns
+    returns-2)
