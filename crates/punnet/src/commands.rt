@@ -26,11 +26,13 @@ pub const TRANSLATE: u32 = 2;
 
 pub const CHECK: u32 = 3;
 
-pub const RUN: u32 = 4;
+pub const LIST: u32 = 4;
 
-pub const WORDS: u32 = 6;
+pub const RUN: u32 = 5;
 
-pub const VERSION: u32 = 10;
+pub const WORDS: u32 = 7;
+
+pub const VERSION: u32 = 11;
 
 // What is wrong with the use of a command.
 pub const NO_COMMAND: u32 = 26;
@@ -47,9 +49,9 @@ const NO_NUMBER: u32 = 1000;
 // More lines than the longest run has.
 const MOST_LINES: u16 = 65535;
 
-// Writes a page that is done, and answers the status.
-pub fn done(page: &Page, held: usize) -> u8 {
-    if io::write_all(STDOUT_FILENO, writing::held_on(page, held)) {
+// Writes what is done to standard output, and answers the status.
+pub fn done(bytes: &[u8]) -> u8 {
+    if io::write_all(STDOUT_FILENO, bytes) {
         return ACCEPTED;
     }
     files::trouble_with_output();
@@ -59,11 +61,12 @@ pub fn done(page: &Page, held: usize) -> u8 {
 // Writes a page on a file that was written. Where that went to standard output, the page goes to standard error; where the page is lost,
 // it is told that the file is there.
 pub fn done_with(path: &[u8], page: &Page, held: usize) -> u8 {
+    let bytes = writing::held_on(page, held);
     if paths::is_dash(path) {
-        io::write_all(STDERR_FILENO, writing::held_on(page, held));
+        io::write_all(STDERR_FILENO, bytes);
         return ACCEPTED;
     }
-    let status = done(page, held);
+    let status = done(bytes);
     if (status != ACCEPTED) & (path.len() != 0) {
         files::complain(path, PAGE_LOST);
     }
@@ -77,7 +80,7 @@ pub fn show(command: u32, word: &[u8]) -> u8 {
     if held == 0 {
         return files::complain(word, NO_HELP);
     }
-    done(&page, held)
+    done(writing::held_on(&page, held))
 }
 
 fn put(page: &mut Page, command: u32, word: &[u8]) -> usize {
@@ -141,9 +144,17 @@ pub fn keep(path: &[u8], bytes: &[u8], line: Line) -> u8 {
     tell_of(path, line, path)
 }
 
-// What an image holds: its bytes, cells, labels and variables.
-pub fn counts(image: &[u8]) -> Line {
-    let mut line = telling::part_number(Line::empty(), words::COLON, image.len() as u64);
+// Writes what was made of a program, and tells what its image holds; where no file is named it is shown, and nothing is told.
+pub fn keep_program(path: &[u8], bytes: &[u8], image: &[u8]) -> u8 {
+    if path.len() == 0 {
+        return done(bytes);
+    }
+    keep(path, bytes, counts(bytes.len(), image))
+}
+
+// How many bytes a file has, and the cells, labels and variables of the image that it is or gives.
+pub fn counts(bytes: usize, image: &[u8]) -> Line {
+    let mut line = telling::part_number(Line::empty(), words::COLON, bytes as u64);
     line = telling::part_number(line, words::CELLS, image::cell_count(image) as u64);
     line = telling::part_number(line, words::LABELS, image::label_count(image) as u64);
     line = telling::part_number(line, words::VARIABLES, image::variable_count(image) as u64);

@@ -1,4 +1,4 @@
-// The bench as a tool on files: programs are tried, translated, checked and run. `punnet help` tells how.
+// The bench as a tool on files: programs are tried, translated, checked, listed and run. `punnet help` tells how.
 mod arguments;
 mod commands;
 mod files;
@@ -17,6 +17,7 @@ use arguments::LONG_HELP;
 use arguments::NO_OPTION;
 use arguments::SHORT_HELP;
 use commands::CHECK;
+use commands::LIST;
 use commands::RUN;
 use commands::TRANSLATE;
 use commands::TRY;
@@ -50,9 +51,9 @@ pub struct Facts {
 const STATUS: i32 = 9;
 
 // Other commands, by their numbers in the table of words.
-const EVENTS: u32 = 5;
+const EVENTS: u32 = 6;
 
-const HELP: u32 = 7;
+const HELP: u32 = 8;
 
 // Whether a command takes so many arguments, with the program's name and its own among them.
 fn takes(command: u32, count: usize) -> bool {
@@ -60,6 +61,7 @@ fn takes(command: u32, count: usize) -> bool {
         TRY => (3 <= count) & (count <= 5),
         TRANSLATE => count == 4,
         CHECK => count == 3,
+        LIST => (3 <= count) & (count <= 4),
         RUN => (5 <= count) & (count <= 6),
         EVENTS => count == 4,
         WORDS => count == 2,
@@ -70,15 +72,16 @@ fn takes(command: u32, count: usize) -> bool {
 
 // Whether a command may write over a file.
 fn is_writing(command: u32) -> bool {
-    (command == TRANSLATE) | (command == RUN) | (command == EVENTS)
+    (command == TRANSLATE) | (command == LIST) | (command == RUN) | (command == EVENTS)
 }
 
 // Does what a command says with its arguments.
 fn work(command: u32, force: bool, a: &[u8], b: &[u8], c: &[u8], d: &[u8]) -> u8 {
     match command {
         TRY => runs::try_command(a, b, c),
-        TRANSLATE => texts::translate_command(a, b, force),
+        TRANSLATE => programs::make_file(command, a, b, outputs::IMAGE, force),
         CHECK => programs::work_on(command, a, b, 0, b),
+        LIST => programs::make_file(command, a, b, outputs::TEXT, force),
         RUN => runs::run_command(command, a, b, c, d, force),
         EVENTS => scripted::events_command(a, b, force),
         _ => commands::show(command, a),

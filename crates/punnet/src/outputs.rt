@@ -1,24 +1,26 @@
 // Files that are written, whole or not at all. What must not be replaced is tested before anything is read: a link is followed and stays,
-// only a plain file is replaced, and only one of the kind that is written, unless that is asked for.
+// only a plain file is replaced, and, unless that is asked for, only one of the kind that is written; a text replaces none.
 use crate::Facts;
 use crate::Part;
 use crate::arguments::NO_OPTION;
+use crate::commands;
 use crate::commands::ACCEPTED;
 use crate::files;
 use crate::given;
 use crate::paths;
 use crate::seen;
-use libc::STDOUT_FILENO;
 use parts::Line;
 use parts::Page;
 use parts::writing;
 
-// The kinds of file that are written, by the words for a file that holds something else.
+// The kinds of file that are written, by the words for a file that holds something else, or for any that is there.
 pub const IMAGE: u32 = 23;
 
 pub const RECORDS: u32 = 24;
 
 pub const EVENTS: u32 = 25;
+
+pub const TEXT: u32 = 33;
 
 // What else is wrong with a file that is to be written.
 const SOURCE: u32 = 21;
@@ -81,6 +83,9 @@ fn objection(path: &[u8], kind: u32, force: bool, is_plain: bool, is_read: bool)
     }
     if force {
         return 0;
+    }
+    if kind == TEXT {
+        return kind;
     }
     if holds(path, kind) {
         return 0;
@@ -211,21 +216,13 @@ fn write_whole(path: &[u8], bytes: &[u8]) -> bool {
     replace(part.file, writing::held_on(&page, part.length), path, bytes)
 }
 
-fn write_standard(bytes: &[u8]) -> bool {
-    if io::write_all(STDOUT_FILENO, bytes) {
-        return true;
-    }
-    files::trouble_with_output();
-    false
-}
-
 // Writes the file behind a name and its links, or standard output for `-`; nothing where no file is named.
 pub fn write(path: &[u8], bytes: &[u8]) -> bool {
     if path.len() == 0 {
         return true;
     }
     if paths::is_dash(path) {
-        return write_standard(bytes);
+        return commands::done(bytes) == ACCEPTED;
     }
     let mut page = writing::page();
     let length = paths::put_behind_links(&mut page, path);

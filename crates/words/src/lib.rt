@@ -75,22 +75,22 @@ pub const FIRST_TEN: u32 = 23;
 pub const VERSION: u32 = 24;
 
 // The last command that the text on the tool's use tells of.
-pub const LAST_COMMAND: u32 = 7;
+pub const LAST_COMMAND: u32 = 8;
 
 // No line that is sought by its meaning has this number or a higher one.
 const MOST_SOUGHT: u32 = 16;
 
 // The table stands in five pieces, since a long one is dear to prove: lines for the tool, numbers of answers, hints, wrong uses, and the text
 // on the tool's use, which is no part of the lines. What is sought most often stands first.
-const TOOL_SIZE: usize = 1924;
+const TOOL_SIZE: usize = 2071;
 
-const ANSWER_SIZE: usize = 1518;
+const ANSWER_SIZE: usize = 1571;
 
 const HINT_SIZE: usize = 2366;
 
-const USE_SIZE: usize = 1149;
+const USE_SIZE: usize = 1247;
 
-const HELP_SIZE: usize = 1634;
+const HELP_SIZE: usize = 1819;
 
 // Where the first line for people begins, the text on the tool's use, and in it what it says on the first command; and the bytes of all.
 pub const FIRST_FOR_PEOPLE: usize = TOOL_SIZE;
@@ -102,7 +102,7 @@ const FIRST_COMMAND: usize = HELP + 68;
 pub const SIZE: usize = HELP + HELP_SIZE;
 
 // The number of lines, and the bytes of the longest with its end.
-const LINE_COUNT: usize = 175;
+const LINE_COUNT: usize = 180;
 
 pub const LONGEST: usize = 76;
 
@@ -147,14 +147,15 @@ part 24: punnet 1.0, for images of edition 1
 command 1: try
 command 2: translate
 command 3: check
-command 4: run
-command 5: events
-command 6: words
-command 7: help
-command 8: -h
-command 9: --help
-command 10: --version
-command 11: -f
+command 4: list
+command 5: run
+command 6: events
+command 7: words
+command 8: help
+command 9: -h
+command 10: --help
+command 11: --version
+command 12: -f
 such 1: a text of 16,385 bytes
 such 2: a line of 65 characters, its comment among them
 such 3: MA 5,1
@@ -164,7 +165,8 @@ such 6: LB Q1 behind a line VA Q1
 such 7: VA Z2, and 32 lines before it declare a variable
 such 8: BR QQ, and no line says LB QQ
 such 9: MV=1
-such 10: a buffer of 5 bytes for an image of 116
+such 10: a buffer of 5 bytes for an image of 116; the tool's is long enough
+such 11: a buffer of 5 bytes for a listing of 39; the tool's is long enough
 such 21: a file of 15 bytes
 such 22: an image that another release made
 such 23: an image that was cut off, or put together with another file
@@ -173,7 +175,7 @@ such 25: an image with a label renamed to a mnemonic
 such 32: a file of 13 bytes
 such 33: 5 input 5 1, as there are four inputs
 such 34: punnet run feeder.image - 4097
-such 35: a buffer of 11 bytes for one turn
+such 35: a buffer of 11 bytes for one turn; the tool's is long enough
 such 101: IC R1, and R1 is 2147483647
 such 102: R1=5/R2, and R2 is 0
 such 103: O1=2, as an output is 0 or 1
@@ -192,6 +194,7 @@ refusal 7: one cell, label or variable over the limit (256, 160, 32)
 refusal 8: no declaration of the name, or the first is of another kind
 refusal 9: the variable can only be read
 refusal 10: the image does not fit into its buffer
+refusal 11: the listing does not fit into its buffer
 refusal 21: the image has fewer than 16 bytes or more than 5,008
 refusal 22: the image is not of edition 1
 refusal 23: place, counts and length in the trailer do not fit the image
@@ -272,13 +275,14 @@ script 2: a number that does not fit in an event
 usage 1: wants TEXT [EVENTS] [TURNS]
 usage 2: wants [-f] TEXT IMAGE
 usage 3: wants IMAGE
-usage 4: wants [-f] IMAGE EVENTS TURNS [RECORDS]
-usage 5: wants [-f] SCRIPT EVENTS
-usage 6: wants nothing
-usage 7: wants [COMMAND or NUMBER]
+usage 4: wants [-f] IMAGE [TEXT]
+usage 5: wants [-f] IMAGE EVENTS TURNS [RECORDS]
+usage 6: wants [-f] SCRIPT EVENTS
+usage 7: wants nothing
 usage 8: wants [COMMAND or NUMBER]
 usage 9: wants [COMMAND or NUMBER]
-usage 10: wants nothing
+usage 10: wants [COMMAND or NUMBER]
+usage 11: wants nothing
 usage 21: the file that is read; give another name to write to
 usage 22: not a plain file, and so not written
 usage 23: holds something else than an image; -f writes over it
@@ -291,6 +295,7 @@ usage 29: no such option; for a file of that name put ./ in front
 usage 30: left from a write that did not end; look at it, then remove it
 usage 31: no command and no number; see punnet help and punnet words
 usage 32: written, but what is told of it is not
+usage 33: is there already and is left alone; -f writes over it
 ";
 
 const HELP_TEXT: [u8; HELP_SIZE] =
@@ -305,6 +310,9 @@ const HELP_TEXT: [u8; HELP_SIZE] =
   punnet check IMAGE
       tell whether a text stands behind an image
       example: punnet check feeder.image
+  punnet list [-f] IMAGE [TEXT]
+      show a text that translates into an image, or write it to a new file
+      example: punnet list feeder.image listed.mc
   punnet run [-f] IMAGE EVENTS TURNS [RECORDS]
       run an image, tell what it recorded, and keep the records in a file
       example: punnet run feeder.image feeder.events 200 feeder.records
@@ -326,7 +334,7 @@ EVENTS is a script or its bytes, or - for no event. TURNS is 0 to 4096;
 try takes 4096 where none is given. Turns count from 0.
 TEXT, IMAGE and SCRIPT may be - for standard input, and a file that is
 written - for standard output. A file that holds something else than
-what is written is replaced only with -f.
+what is written is replaced only with -f, and so is any file by list.
 The status is 0 accepted or run, 1 refused, 2 usage or file trouble.
 ";
 
