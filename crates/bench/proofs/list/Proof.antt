@@ -1,7 +1,6 @@
 -- `list` meets its contract: the refusals of the image, then a buffer that is too short, then the listing.
 use mathlib.Core.Path.{sym, _∙_}
 use native.Mathlib.Omega.{arith}
-use borrow.Author.Needs.{needs}
 use Rattle.bench.proofs.Listings.{page-room, list-refused, list-short, list-fits}
 use Rattle.bench.proofs.list.Statement.{statement}
 use Rattle.bench.proofs.list.Tie as tie
@@ -33,12 +32,12 @@ pub list-spec : {M : Type 1} → statement M
 list-spec =
     tie.close
     (tie.spec
-    (search needs)
-    (search needs)
+    (λ c κs. tt)
+    (λ c κs. tt)
     returns
     write-listing-requires
-    (search needs)
-    (search needs)
+    (λ c κs. tt)
+    (λ c. omega arith)
     returns-2
-    (search needs)
+    (λ c. omega arith)
     returns-3)

@@ -2,11 +2,11 @@
 use mathlib.Core.Path.{_≡_, refl, sym, _∙_}
 use mathlib.Core.Bool.{false}
 use Prim.Native.Nat.{ℕ, _<_}
+use native.Mathlib.Omega.{arith}
 use Rattle.image.specs.Check.{checked}
 use Rattle.events.specs.Events.{badScript, badEvents, eventCount}
 use Rattle.running.proofs.Scripts.{few-events}
 use Rattle.bench.proofs.Refusals.{refused-image, refused-script, refused-event, no-bad-event, refused-budget, refused-room, ran-as}
-use borrow.Author.Needs.{needs}
 use Rattle.bench.proofs.run.Statement.{statement}
 use Rattle.bench.proofs.run.Tie as tie
 use Rattle.bench.proofs.run.Reads as reads
@@ -76,24 +76,24 @@ pub run-spec : {M : Type 1} → statement M
 run-spec =
     tie.close
     (tie.spec
-    (search needs)
-    (search needs)
+    (λ c κs. tt)
+    (λ c κs. tt)
     returns
-    (search needs)
-    (search needs)
+    (λ c κs. tt)
+    (λ c κs. tt)
     returns-2
     first-bad-event-requires
-    (search needs)
-    (search needs)
+    (λ c κs. tt)
+    (λ c κs. tt)
     returns-3
-    (search needs)
+    (λ c κs. tt)
     returns-4
-    (search needs)
-    (search needs)
+    (λ c. omega arith)
+    (λ c κs. tt)
     returns-5
-    (search needs)
+    (λ c. omega arith)
     course-requires
-    (search needs)
-    (search needs)
-    (search needs)
+    (λ c κs. tt)
+    (λ c. omega arith)
+    (λ c. omega arith)
     returns-6)

@@ -10,7 +10,6 @@ use Rattle.names.specs.Code.{countsOf}
 use Rattle.translation.specs.Images.{image}
 use Rattle.bench.specs.Translating.{answered}
 use Rattle.bench.proofs.Translations.{few, measured, refused-long, refused-line, refused-short, translated-as}
-use borrow.Author.Needs.{needs}
 use Rattle.bench.proofs.translate.Statement.{statement}
 use Rattle.bench.proofs.translate.Tie as tie
 use Rattle.bench.proofs.translate.Reads as reads
@@ -86,20 +85,20 @@ pub translate-spec : {M : Type 1} → statement M
 translate-spec =
     tie.close
     (tie.spec
-    (search needs)
+    (λ c κs. tt)
     returns
-    (search needs)
+    (λ c κs. tt)
     slice-aggregate-survey-lines
     survey-lines-requires
-    (search needs)
+    (λ c κs. tt)
     returns-2
     cast-image-length
     cast-image-length-2
     cast-image-length-3
-    (search needs)
-    (search needs)
+    (λ c κs. tt)
+    (λ c κs. tt)
     returns-3
     slice-aggregate-write-image
     write-image-requires
-    (search needs)
+    (λ c. omega arith)
     returns-4)
