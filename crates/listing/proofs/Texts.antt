@@ -22,7 +22,7 @@ use Rattle.program.proofs.Selectors.{operator-back, comparison-back, comparison
 use Rattle.text.specs.Forms.{comparisonSign}
 use Rattle.image.specs.Layout.{cellCount, labelCount, variableCount, cellAt, labelPlace, labelTarget, variablePlace, startValue, nameAt}
 use Rattle.printing.specs.Listing.{plain, variableName, labelName, valueText, conditionText, statementText, line, variableLine}
-use Rattle.printing.specs.Code.{packed, packedIn, ifSo, phraseText, operandText, isThere, jumps, firstsOf, targetKey, nameKey, commaIf, opening, operatorText, comparisonText, signText, cellText, labelText, variableText}
+use Rattle.printing.specs.Code.{packed, packedIn, ifSo, phraseText, operandText, isThere, jumps, firstsOf, targetKey, nameKey, commaIf, opening, operatorText, comparisonText, signText, openingText, operandsText, cellText, labelText, variableText, recordText}
 use Rattle.printing.proofs.Packed.{packed-number}
 use Rattle.listing.proofs.Accepted.{Accepted}
 use Rattle.listing.proofs.Recorded.{Recorded}
@@ -142,7 +142,7 @@ module _ (s : List ℕ) (a : Accepted s) (r : Recorded s) where
   -- ---- statements
 
   cell-text : (st : Statement ℕ) → Resolved s st → cellText s keys (cellOf same same st) ≡ line (statementText s st)
-  unfolding cellText cellOf jumpOf operandText isThere signText jumps operatorText comparisonText commaIf ifSo packed packedIn mnemonics ascii key number statementText conditionText line operands writes targets compared
+  unfolding cellText openingText operandsText cellOf jumpOf operandText isThere signText jumps operatorText comparisonText commaIf ifSo packed packedIn mnemonics ascii key number statementText conditionText line operands writes targets compared
   cell-text (Set v x) h = rw (assigned 1 _ _ _ refl (written-keyed 1 v 0 (h .sets .0)), operand-text x (h .reads .0)) (simp append-assoc)
   cell-text (SetWith v x o y) h =
       rw (assigned 2 _ _ _ refl (written-keyed 2 v 0 (h .sets .0)), operand-text x (h .reads .0), operand-text y (h .reads .1 .0), operator-back o) (simp append-assoc)
@@ -176,7 +176,7 @@ module _ (s : List ℕ) (a : Accepted s) (r : Recorded s) where
   unfolding labelText phraseText ifSo packed packedIn mnemonics key number ascii line nameAt field
   label-line k h = rw (recorded-word (labelPlace s k) (a .label-name k h)) (simp append-assoc)
 
-  pub variable-line : (k : ℕ) → k < variableCount s → variableText (field 2 (variablePlace s k) s) (startValue s k) ≡ variableLine s k
-  unfolding variableText phraseText ifSo packed packedIn mnemonics key number ascii line nameAt field variableLine
+  pub variable-line : (k : ℕ) → k < variableCount s → recordText s k ≡ variableLine s k
+  unfolding recordText variableText phraseText ifSo packed packedIn mnemonics key number ascii line nameAt field variableLine
   variable-line k h =
       rw (recorded-word (variablePlace s k) (a .variable-name k h)) (joined (ascii "VA") (nameAt s (variablePlace s k)) (plain (startValue s k)) 61)

@@ -9,16 +9,16 @@ use native.Mathlib.Nat.{sub-zero}
 use native.Mathlib.Omega.{arith}
 use borrow.Author.Tests.{lt-ltb, le-ltb}
 use lib.Dec.{eqb}
-use Rattle.numbers.specs.Bytes.{ascii, field}
+use Rattle.numbers.specs.Bytes.{ascii}
 use Rattle.numbers.specs.Tests.{listed}
 use Rattle.numbers.proofs.Truth.{if-below}
 use Rattle.program.specs.Names.{Name}
 use Rattle.program.specs.Cells.{statementOf}
 use Rattle.text.specs.Forms.{Line, Blank, Label, Declared, Acts}
-use Rattle.image.specs.Layout.{cellCount, labelCount, variableCount, cellAt, labelTarget, variablePlace, startValue}
+use Rattle.image.specs.Layout.{cellCount, labelCount, variableCount, cellAt, labelTarget}
 use Rattle.image.specs.Check.{checked}
 use Rattle.printing.specs.Listing.{statementText, line, variableLine, labelLine, labelLines, cellLines, listing}
-use Rattle.printing.specs.Code.{firstsOf, cellText, labelText, labelTexts, variableText, variableTexts, pastFrom, cellTexts, imageText}
+use Rattle.printing.specs.Code.{firstsOf, cellText, labelText, labelTexts, recordText, variableTexts, pastFrom, cellTexts, imageText}
 use Rattle.listing.specs.Listed.{labelSays, labelsSay}
 use Rattle.listing.proofs.Lists.{numbers, flat-flat, flat-same}
 use Rattle.listing.proofs.Accepted.{Accepted, accepted}
@@ -96,6 +96,6 @@ written s e =
     let a = accepted s e in
     let r = recorded s e in
     ap₂ (λ (x y : List ℕ). x ++ y)
-    (ap (λ (n : ℕ). flatMap (λ k. variableText (field 2 (variablePlace s k) s) (startValue s k)) (numbers 0 n)) (sub-zero (variableCount s))
-    ∙ flat-same (λ k. variableText (field 2 (variablePlace s k) s) (startValue s k)) (variableLine s) 0 (variableCount s) (λ k l h. variable-line s a r k (omega arith)))
+    (ap (λ (n : ℕ). flatMap (recordText s) (numbers 0 n)) (sub-zero (variableCount s))
+    ∙ flat-same (recordText s) (variableLine s) 0 (variableCount s) (λ k l h. variable-line s a r k (omega arith)))
     (ap (cellTexts s (cellCount s) 0) (sym (start-first s r)) ∙ cells-of s a r (cellCount s) 0 (omega arith))

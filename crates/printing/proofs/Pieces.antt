@@ -110,12 +110,12 @@ there shape place s =
 module _ (s : List ℕ) (k to : ℕ) {whole old page new : List ℕ} {start at next : ℕ} where
   pub variable-next : (words : List ℕ) → k < to → flatMap packed words ≡ recordText s k → Putting whole old start (variableTexts s k to) page at
       → Put (flatMap packed words) page at next new → Putting whole old start (variableTexts s (k + 1) to) new next
-  unfolding variableTexts recordText
+  unfolding variableTexts
   variable-next words h e p q = put-next (putting-same (pieces-left (recordText s) k to h) p) (put-same e q)
 
 pub variables-put : (s : List ℕ) (k to : ℕ) {old page : List ℕ} {at : ℕ} → to ≡ variableCount s → to ≤ k
     → Putting (variableTexts s 0 to) old 0 (variableTexts s k to) page at → Put (variableTexts s 0 (variableCount s)) old 0 at page
-unfolding variableTexts recordText
+unfolding variableTexts
 variables-put s k to e h p = put-same (ap (variableTexts s 0) e) (put-all (pieces-over (recordText s) k to h) p)
 
 -- ---- the loop over labels and cells

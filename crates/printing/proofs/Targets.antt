@@ -132,7 +132,7 @@ module _ (s : List ℕ) (label cell : ℕ) where
 
   pub cell-first : labelNext s label cell ≡ false → cell < cellCount s
       → cellTexts s (cellCount s - cell) cell label ≡ openingText s (firstsOf s) (cellAt s cell) ++ (operandsText s (cellAt s cell) ++ cellTexts s (cellCount s - (cell + 1)) (cell + 1) label)
-  unfolding cellTexts cellText openingText operandsText
+  unfolding cellTexts cellText
   cell-first e c =
       let one : cell + 1 ≡ suc cell = omega arith in
       let n : cellCount s - cell ≡ suc (cellCount s - suc cell) = omega arith in

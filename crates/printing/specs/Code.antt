@@ -108,18 +108,15 @@ comparisonText selector = cond (eqb selector 0) [] (comparisonSign (comparisonOf
 unfoldable pub signText : ℕ → ℕ → List ℕ
 signText operation selector = cond (eqb operation 2) (operatorText selector) (cond (jumps operation) (comparisonText selector) [])
 
--- The line of a cell.
-unfoldable pub cellText : List ℕ → List ℕ → Cell → List ℕ
-cellText s firsts c =
-    opening (c .operation) (nameKey s firsts (c .operation) (c .written) (c .target)) (isThere (c .left))
-    ++ (operandText s (c .left) ++ (signText (c .operation) (c .selector) ++ (operandText s (c .right) ++ (10 ∷ []))))
-
--- The two halves of it: what stands before the operands; the operands, and the end of the line.
+-- The line of a cell in two halves: what stands before the operands; the operands, and the end of the line.
 unfoldable pub openingText : List ℕ → List ℕ → Cell → List ℕ
 openingText s firsts c = opening (c .operation) (nameKey s firsts (c .operation) (c .written) (c .target)) (isThere (c .left))
 
 unfoldable pub operandsText : List ℕ → Cell → List ℕ
 operandsText s c = operandText s (c .left) ++ (signText (c .operation) (c .selector) ++ (operandText s (c .right) ++ (10 ∷ [])))
+
+unfoldable pub cellText : List ℕ → List ℕ → Cell → List ℕ
+cellText s firsts c = openingText s firsts c ++ operandsText s c
 
 -- The name for a statement with this operation whose cell stands at this place.
 unfoldable pub nameAfter : List ℕ → List ℕ → ℕ → ℕ → ℕ
@@ -139,16 +136,15 @@ labelText s k = phraseText (key (getD mnemonics 0 [])) true (field 2 (labelPlace
 unfoldable pub labelTexts : List ℕ → ℕ → ℕ → List ℕ
 labelTexts s from to = flatMap (labelText s) (listed from (to - from) (λ k. k))
 
--- The line of a variable, and those of the variables from one to before another.
+-- The line of a variable, that of a variable record, and those of the records from one to before another.
 unfoldable pub variableText : ℕ → ℤ → List ℕ
 variableText name start = phraseText (key (getD mnemonics 1 [])) true name 61 ++ (plain start ++ (10 ∷ []))
 
-unfoldable pub variableTexts : List ℕ → ℕ → ℕ → List ℕ
-variableTexts s from to = flatMap (λ k. variableText (field 2 (variablePlace s k) s) (startValue s k)) (listed from (to - from) (λ k. k))
-
--- That of the variable record with this number.
 unfoldable pub recordText : List ℕ → ℕ → List ℕ
 recordText s k = variableText (field 2 (variablePlace s k) s) (startValue s k)
+
+unfoldable pub variableTexts : List ℕ → ℕ → ℕ → List ℕ
+variableTexts s from to = flatMap (recordText s) (listed from (to - from) (λ k. k))
 
 -- A label comes before a cell: one that is there, with a target not past the cell, or any behind the last cell.
 unfoldable pub labelNext : List ℕ → ℕ → ℕ → Bool

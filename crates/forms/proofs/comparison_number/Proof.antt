@@ -32,4 +32,9 @@ unfolding comparisonBy
 returns-2 c = sign-found (comparison-placed (nameOf _)) (at (c .before)) (search needs)
 
 pub comparison-number-spec : {M : Type 1} → statement M
-comparison-number-spec = tie.close (tie.spec (search needs) (search needs) returns cast-result returns-2)
+comparison-number-spec = tie.close (tie.spec
+    (λ c. omega arith)
+    (λ c κs. tt)
+    returns
+    cast-result
+    returns-2)

@@ -1,6 +1,5 @@
 -- `fill` meets its contract. The loop's invariant: the slots that are left give the whole; each took at most two tokens.
 -- Assumes nothing.
-use borrow.Author.Needs.{needs}
 use native.Mathlib.Omega.{arith}
 use Prim.Native.Nat.{_≤_, _<_, _*_, _-_}
 use lib.ListN.{length, drop}
@@ -73,16 +72,16 @@ fill-spec =
     (tie.spec
     Inv-loop
     μ-loop
-    (search needs)
-    (search needs)
+    (λ c κs. omega arith)
+    (λ c κs. tt)
     loop-holds
-    (search needs)
+    (λ c. omega arith)
     array-read-slot
     returns
-    (search needs)
+    (λ c. omega arith)
     array-copy-out-slot
     add-slot
-    (search needs)
+    (λ c. omega arith)
     array-copy-out-slot-2
     slot-requires
     add-k

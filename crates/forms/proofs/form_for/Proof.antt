@@ -1,6 +1,5 @@
 -- `form_for` meets its contract.
 -- Assumes nothing.
-use borrow.Author.Needs.{needs}
 use native.Mathlib.Omega.{arith}
 use Rattle.forms.specs.Code.{formFor}
 use Rattle.forms.proofs.Choosing.{first-below}
@@ -19,4 +18,9 @@ unfolding formFor
 returns-2 c = rw (← c .before .before .first-form .ensures, ← c .before .is-longer .ensures, c .if1 .left)
 
 pub form-for-spec : {M : Type 1} → statement M
-form-for-spec = tie.close (tie.spec (search needs) (search needs) add-result returns returns-2)
+form-for-spec = tie.close (tie.spec
+    (λ c κs. tt)
+    (λ c κs. tt)
+    add-result
+    returns
+    returns-2)

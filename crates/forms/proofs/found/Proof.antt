@@ -1,6 +1,5 @@
 -- `found` meets its contract.
 -- Assumes nothing.
-use borrow.Author.Needs.{needs}
 use Rattle.numbers.proofs.Kit.{tests}
 use Rattle.forms.specs.Code.{foundBy}
 use Rattle.forms.proofs.found.Statement.{statement}
@@ -15,4 +14,8 @@ unfolding foundBy
 returns-2 c = rw (c .operand .ensures) (search tests)
 
 pub found-spec : {M : Type 1} → statement M
-found-spec = tie.close (tie.spec (search needs) returns (search needs) returns-2)
+found-spec = tie.close (tie.spec
+    (λ c κs. tt)
+    returns
+    (λ c κs. tt)
+    returns-2)

@@ -32,4 +32,9 @@ unfolding operatorBy
 returns-2 c = sign-found (operator-placed (nameOf _)) (at (c .before)) (search needs)
 
 pub operator-number-spec : {M : Type 1} → statement M
-operator-number-spec = tie.close (tie.spec (search needs) (search needs) returns cast-result returns-2)
+operator-number-spec = tie.close (tie.spec
+    (λ c. omega arith)
+    (λ c κs. tt)
+    returns
+    cast-result
+    returns-2)

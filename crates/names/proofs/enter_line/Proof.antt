@@ -4,7 +4,6 @@ use mathlib.Core.Path.{ap, _∙_}
 use lib.ListN.{length}
 use Rattle.rows.proofs.Seeking.{enter-long}
 use Rattle.names.specs.Code.{enteredBy}
-use borrow.Author.Needs.{needs}
 use borrow.Author.Tests.{ne-eqb}
 use Rattle.names.proofs.enter_line.Statement.{statement}
 use Rattle.names.proofs.enter_line.Tie as tie
@@ -28,4 +27,11 @@ unfolding enteredBy
 returns-3 c = rw (ne-eqb _ 1 (c .before .if1 .left), ne-eqb _ 2 (c .if2 .left))
 
 pub enter-line-spec : {M : Type 1} → statement M
-enter-line-spec = tie.close (tie.spec (search needs) same-length returns (search needs) same-length-2 returns-2 returns-3)
+enter-line-spec = tie.close (tie.spec
+    (λ c κs. tt)
+    same-length
+    returns
+    (λ c κs. tt)
+    same-length-2
+    returns-2
+    returns-3)

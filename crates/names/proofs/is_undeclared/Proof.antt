@@ -14,8 +14,8 @@ pub is-undeclared-spec : {M : Type 1} → statement M
 is-undeclared-spec =
     tie.close
     (tie.spec
-    (search needs)
-    (search needs)
+    (λ c κs. tt)
+    (λ c κs. tt)
     (λ c. search needs)
     (λ c. search needs)
     returns)

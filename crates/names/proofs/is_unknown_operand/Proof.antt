@@ -3,7 +3,6 @@
 use native.Mathlib.Omega.{arith}
 use Rattle.names.specs.Code.{unknownOperand, unknownValueIn}
 use Rattle.names.proofs.Asking.{keyed-variable}
-use borrow.Author.Needs.{needs}
 use Rattle.names.proofs.is_unknown_operand.Statement.{statement}
 use Rattle.names.proofs.is_unknown_operand.Tie as tie
 
@@ -26,11 +25,11 @@ pub is-unknown-operand-spec : {M : Type 1} → statement M
 is-unknown-operand-spec =
     tie.close
     (tie.spec
-    (search needs)
-    (search needs)
-    (search needs)
+    (λ c. omega arith)
+    (λ c. omega arith)
+    (λ c. omega arith)
     cast-is-unknown-variable
-    (search needs)
+    (λ c κs. tt)
     returns
     returns-2
     returns-3)

@@ -3,7 +3,6 @@
 use mathlib.Core.Path.{_∙_}
 use Rattle.names.specs.Code.{unknownWritten}
 use borrow.Author.Tests.{ne-eqb}
-use borrow.Author.Needs.{needs}
 use Rattle.names.proofs.is_unknown_written.Statement.{statement}
 use Rattle.names.proofs.is_unknown_written.Tie as tie
 
@@ -16,4 +15,7 @@ unfolding unknownWritten
 returns-2 c = c .is-unknown-variable .ensures ∙ rw (ne-eqb _ 0 (c .before .if1 .left))
 
 pub is-unknown-written-spec : {M : Type 1} → statement M
-is-unknown-written-spec = tie.close (tie.spec returns (search needs) returns-2)
+is-unknown-written-spec = tie.close (tie.spec
+    returns
+    (λ c κs. tt)
+    returns-2)

@@ -65,12 +65,12 @@ line-fault-spec =
     tie.close
     (tie.spec
     returns
-    (search needs)
+    (λ c κs. tt)
     returns-2
-    (search needs)
+    (λ c κs. tt)
     returns-3
     (λ c. search needs)
     returns-4
-    (search needs)
+    (λ c κs. tt)
     returns-5
     returns-6)

@@ -1,7 +1,7 @@
 -- `line_faults` meets its contract. The loop's invariant: the faults of the lines that are left, over what the buffer has, give the whole.
 -- Assumes nothing.
 use Prim.Native.Nat.{_+_, _-_}
-use borrow.Author.Needs.{needs}
+use native.Mathlib.Omega.{arith}
 use lib.ListN.{length}
 use mathlib.Core.Path.{sym, ap, _∙_}
 use Rattle.rows.proofs.Seeking.{long}
@@ -42,14 +42,14 @@ line-faults-spec =
     (tie.spec
     Inv-loop
     μ-loop
-    (search needs)
-    (search needs)
+    (λ c κs. tt)
+    (λ c κs. tt)
     loop-holds
     slice-aggregate-pass-line
     pass-line-requires
-    (search needs)
-    (search needs)
-    (search needs)
+    (λ c. omega arith)
+    (λ c κs. tt)
+    (λ c. omega arith)
     loop-again
     same-length
     returns)

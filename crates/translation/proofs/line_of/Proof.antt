@@ -1,7 +1,6 @@
 -- `line_of` meets its contract. The loop's invariant: seeking from here on, with these cells to pass, finds what seeking in the whole text does.
 -- Assumes nothing.
 use Prim.Native.Nat.{_+_, _-_}
-use borrow.Author.Needs.{needs}
 use denote.Ref.{now}
 use lib.ListN.{length}
 use native.Mathlib.Omega.{arith}
@@ -52,12 +51,12 @@ line-of-spec =
     μ-loop
     loop-holds
     line-at-requires
-    (search needs)
-    (search needs)
-    (search needs)
-    (search needs)
+    (λ c. omega arith)
+    (λ c. omega arith)
+    (λ c. omega arith)
+    (λ c κs. tt)
     returns
-    (search needs)
+    (λ c κs. tt)
     add-line
     loop-less
     loop-again

@@ -27,13 +27,13 @@ pub number-of-spec : {M : Type 1} → statement M
 number-of-spec =
     tie.close
     (tie.spec
-    (search needs)
-    (search needs)
-    (search needs)
-    (search needs)
+    (λ c κs. tt)
+    (λ c. omega arith)
+    (λ c. omega arith)
+    (λ c. omega arith)
     cast-result-2
     add-result
     returns
-    (search needs)
+    (λ c κs. tt)
     cast-result-3
     returns-2)

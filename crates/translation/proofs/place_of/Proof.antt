@@ -2,7 +2,6 @@
 -- Assumes nothing.
 use native.Mathlib.Omega.{arith}
 use Rattle.translation.proofs.Writing.{place-found, place-low}
-use borrow.Author.Needs.{needs}
 use Rattle.translation.proofs.place_of.Statement.{statement}
 use Rattle.translation.proofs.place_of.Tie as tie
 
@@ -13,4 +12,8 @@ returns : tie.Need-returns
 returns c = place-found _ _ (c .look-up .ensures)
 
 pub place-of-spec : {M : Type 1} → statement M
-place-of-spec = tie.close (tie.spec (search needs) (search needs) cast-result returns)
+place-of-spec = tie.close (tie.spec
+    (λ c κs. tt)
+    (λ c. omega arith)
+    cast-result
+    returns)

@@ -21,12 +21,12 @@ pub resolve-operand-spec : {M : Type 1} → statement M
 resolve-operand-spec =
     tie.close
     (tie.spec
-    (search needs)
-    (search needs)
-    (search needs)
+    (λ c. omega arith)
+    (λ c. omega arith)
+    (λ c. omega arith)
     cast-number-of
     (λ c κs. search needs)
-    (search needs)
+    (λ c. omega arith)
     (λ c. search needs)
     returns-2
     returns-3)

@@ -1,6 +1,5 @@
 -- `write_image` meets its contract.
 -- Assumes nothing.
-use borrow.Author.Needs.{needs}
 use denote.Ref.{now}
 use native.Mathlib.Omega.{arith}
 use Rattle.translation.proofs.Whole.{few, places-near, image-done}
@@ -52,10 +51,10 @@ write-image-spec =
     cast-cells
     cast-labels
     cast-variables
-    (search needs)
-    (search needs)
+    (λ c κs. tt)
+    (λ c κs. tt)
     emit-lines-requires
-    (search needs)
-    (search needs)
-    (search needs)
+    (λ c κs. tt)
+    (λ c κs. tt)
+    (λ c. omega arith)
     returns)

@@ -1,6 +1,5 @@
 -- `Match::slot` meets its contract.
 -- Assumes nothing.
-use borrow.Author.Needs.{needs}
 use native.Mathlib.Omega.{arith}
 use Rattle.forms.specs.Code.{slotBy}
 use Rattle.forms.proofs.Matching.{found-used}
@@ -21,4 +20,9 @@ unfolding slotBy
 returns-2 c = rw (c .word .ensures, c .before .if1 .left)
 
 pub slot-spec : {M : Type 1} → statement M
-slot-spec = tie.close (tie.spec (search needs) value-requires returns (search needs) returns-2)
+slot-spec = tie.close (tie.spec
+    (λ c κs. tt)
+    value-requires
+    returns
+    (λ c κs. omega arith)
+    returns-2)

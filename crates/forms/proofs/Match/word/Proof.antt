@@ -1,6 +1,6 @@
 -- `Match::word` meets its contract.
 -- Assumes nothing.
-use borrow.Author.Needs.{needs}
+use native.Mathlib.Omega.{arith}
 use Rattle.numbers.proofs.Kit.{tests}
 use Rattle.forms.specs.Code.{keptBy, wordBy}
 use Rattle.forms.proofs.Match.word.Statement.{statement}
@@ -27,4 +27,11 @@ unfolding wordBy keptBy
 returns-5 c = rw (c .before .before .before .before .before .before .fits2 .ensures, c .before .before .before .if1 .left) (search tests)
 
 pub word-spec : {M : Type 1} → statement M
-word-spec = tie.close (tie.spec (search needs) (search needs) returns returns-2 returns-3 returns-4 returns-5)
+word-spec = tie.close (tie.spec
+    (λ c κs. tt)
+    (λ c. omega arith)
+    returns
+    returns-2
+    returns-3
+    returns-4
+    returns-5)

@@ -2,12 +2,12 @@
 -- Assumes nothing.
 use mathlib.Core.Path.{ap, _∙_}
 use mathlib.Core.List.{[]}
+use native.Mathlib.Omega.{arith}
 use borrow.Author.Tests.{eq-eqb, ne-eqb, lt-ltb, le-ltb}
 use Rattle.effects.specs.declared.Effect.the-variants.{Fails}
 use Rattle.machine.specs.declared.Machine.{Machine}
 use Rattle.machine.specs.Turn.{noHandler, called, flagged, failed}
 use Rattle.machine.specs.Code.{changed}
-use borrow.Author.Needs.{needs}
 use Rattle.machine.proofs.Control.failed.Statement.{statement}
 use Rattle.machine.proofs.Control.failed.Tie as tie
 
@@ -29,4 +29,10 @@ returns-3 c = λ error vars. simp (ne-eqb _ _ (c .before .before .if1 .left), le
 pub failed-spec : {M : Type 1} → statement M
 failed-spec =
     tie.close
-    (tie.spec (search needs) returns (search needs) called-requires returns-2 returns-3)
+    (tie.spec
+    (λ c κs. omega arith)
+    returns
+    (λ c κs. tt)
+    called-requires
+    returns-2
+    returns-3)

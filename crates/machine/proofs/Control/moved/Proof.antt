@@ -1,8 +1,8 @@
 -- `Control::moved` meets its contract: by what `onward` ensures.
 -- Assumes nothing.
+use native.Mathlib.Omega.{arith}
 use lib.ListN.{set}
 use Rattle.machine.specs.Turn.{inMotion, movingBit}
-use borrow.Author.Needs.{needs}
 use Rattle.machine.proofs.Control.moved.Statement.{statement}
 use Rattle.machine.proofs.Control.moved.Tie as tie
 
@@ -11,4 +11,6 @@ unfolding inMotion
 returns c = λ vars. c .onward .ensures (set vars 14 (movingBit (c .before .before .args .motion)))
 
 pub moved-spec : {M : Type 1} → statement M
-moved-spec = tie.close (tie.spec (search needs) returns)
+moved-spec = tie.close (tie.spec
+    (λ c κs. omega arith)
+    returns)

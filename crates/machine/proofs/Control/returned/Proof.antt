@@ -1,7 +1,7 @@
 -- `Control::returned` meets its contract: by what `release` and `last_place` ensure.
 -- Assumes nothing.
+use native.Mathlib.Omega.{arith}
 use Rattle.machine.specs.Turn.{returned}
-use borrow.Author.Needs.{needs}
 use Rattle.machine.proofs.Control.returned.Statement.{statement}
 use Rattle.machine.proofs.Control.returned.Tie as tie
 
@@ -10,4 +10,7 @@ unfolding returned
 returns c = λ vars. rw (c .release .ensures, c .before .last-place .ensures)
 
 pub returned-spec : {M : Type 1} → statement M
-returned-spec = tie.close (tie.spec (search needs) (search needs) returns)
+returned-spec = tie.close (tie.spec
+    (λ c κs. omega arith)
+    (λ c κs. omega arith)
+    returns)

@@ -1,9 +1,9 @@
 -- `Control::stops` meets its contract: only an error stops a run.
 -- Assumes nothing.
+use native.Mathlib.Omega.{arith}
 use Rattle.machine.specs.Turn.{noHandler, turn}
 use Rattle.machine.specs.Code.{joined}
 use Rattle.machine.proofs.Turns.{error-stops, runs-on}
-use borrow.Author.Needs.{needs}
 use Rattle.machine.proofs.Control.stops.Statement.{statement}
 use Rattle.machine.proofs.Control.stops.Tie as tie
 
@@ -15,4 +15,7 @@ returns-2 : tie.Need-returns-2
 returns-2 c = λ cells vars. runs-on (c .before .args .does) cells (joined vars (c .before .args .self)) (c .match .keys2)
 
 pub stops-spec : {M : Type 1} → statement M
-stops-spec = tie.close (tie.spec (search needs) returns returns-2)
+stops-spec = tie.close (tie.spec
+    (λ c. omega arith)
+    returns
+    returns-2)

@@ -31,10 +31,10 @@ turn-spec =
     (tie.spec
     (λ c κs. search needs)
     slice-aggregate-effect
-    (search needs)
+    (λ c κs. tt)
     change-requires
-    (search needs)
-    (search needs)
+    (λ c κs. tt)
+    (λ c κs. tt)
     after-requires
-    (search needs)
+    (λ c κs. tt)
     returns)

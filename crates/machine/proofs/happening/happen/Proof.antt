@@ -1,5 +1,6 @@
 -- `happen` meets its contract: the tests come in the order of specs/; a good event for an input has 0 or 1.
 -- Assumes nothing.
+use native.Mathlib.Omega.{arith}
 use borrow.Author.Needs.{needs}
 use mir.Val.{SFits}
 use mir.Syntax.{w32}
@@ -34,9 +35,9 @@ happen-spec =
     (tie.spec
     input-requires
     returns
-    (search needs)
+    (λ c κs. tt)
     returns-2
-    (search needs)
-    (search needs)
-    (search needs)
+    (λ c. omega arith)
+    (λ c. omega arith)
+    (λ c. omega arith)
     returns-3)

@@ -1,6 +1,7 @@
 -- `recorded` meets its contract: by the effect.
 -- Assumes nothing.
 use mathlib.Core.Path.{_≡_, _∙_}
+use native.Mathlib.Omega.{arith}
 use mir.Val.{Fits, toZ, ofZ}
 use mir.Syntax.{w8, w32}
 use Rattle.machine.specs.Turn.{turn}
@@ -37,14 +38,14 @@ pub recorded-spec : {M : Type 1} → statement M
 recorded-spec =
     tie.close
     (tie.spec
-    (search needs)
-    (search needs)
-    (search needs)
-    (search needs)
-    (search needs)
-    (search needs)
-    (search needs)
-    (search needs)
+    (λ c. omega arith)
+    (λ c. omega arith)
+    (λ c. omega arith)
+    (λ c κs. tt)
+    (λ c. omega arith)
+    (λ c. omega arith)
+    (λ c. omega arith)
+    (λ c κs. tt)
     returns
     returns-2
     returns-3

@@ -3,7 +3,6 @@
 use mathlib.Core.Path.{_≡_}
 use Prim.Native.Nat.{_+_, _-_}
 use native.Mathlib.Omega.{arith}
-use borrow.Author.Needs.{needs}
 use Rattle.numbers.proofs.Kit.{back32}
 use Rattle.machine.specs.Turn.{storeRecord}
 use Rattle.machine.proofs.Turns.{output}
@@ -25,4 +24,9 @@ unfolding storeRecord
 returns-2 c = simp (c .before .if1 .left) (c .nothing .ensures)
 
 pub stored-spec : {M : Type 1} → statement M
-stored-spec = tie.close (tie.spec sub-t6 (search needs) returns (search needs) returns-2)
+stored-spec = tie.close (tie.spec
+    sub-t6
+    (λ c. omega arith)
+    returns
+    (λ c κs. tt)
+    returns-2)

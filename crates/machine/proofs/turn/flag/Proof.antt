@@ -1,7 +1,7 @@
 -- `flag` meets its contract: the error is the same number in 32 bits.
 -- Assumes nothing.
+use native.Mathlib.Omega.{arith}
 use Rattle.machine.proofs.Kit.{byte-up}
-use borrow.Author.Needs.{needs}
 use Rattle.machine.proofs.turn.flag.Statement.{statement}
 use Rattle.machine.proofs.turn.flag.Tie as tie
 
@@ -12,11 +12,11 @@ pub flag-spec : {M : Type 1} → statement M
 flag-spec =
     tie.close
     (tie.spec
-    (search needs)
-    (search needs)
-    (search needs)
-    (search needs)
-    (search needs)
-    (search needs)
-    (search needs)
+    (λ c. omega arith)
+    (λ c. omega arith)
+    (λ c. omega arith)
+    (λ c. omega arith)
+    (λ c. omega arith)
+    (λ c. omega arith)
+    (λ c. omega arith)
     returns)
