@@ -60,7 +60,7 @@ module _ (xs : List Line) (f : Fine xs) where
   name-good : (k : ℕ) → k < howMany makesLabel xs + howMany makesVariable xs → badName made k ≡ false
   unfolding badName
   name-good k h =
-      rw (recorded xs f k h .user)
+      rw (recorded xs f k h .free)
       (no-any (λ j. eqList (recordName made j) (recordName made k)) k
       (λ j l.
       is-no (eqList (recordName made j) (recordName made k))

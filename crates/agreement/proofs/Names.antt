@@ -11,7 +11,7 @@ use lib.IntN.{ℤ}
 use Rattle.numbers.specs.Tests.{anyOf, eqList}
 use Rattle.numbers.proofs.Truth.{is-true, left-of, neither}
 use Rattle.numbers.proofs.Tests.{eqList-refl}
-use Rattle.program.specs.Names.{Name, userName}
+use Rattle.program.specs.Names.{Name, freeName}
 use Rattle.text.specs.Forms.{Line, Label, Declared}
 use Rattle.text.specs.Faults.{howMany, makesLabel, makesVariable, placeOf, declares, declaresIt, repeated, firstMakes}
 use Rattle.image.specs.Layout.{labelPlace, labelTarget, variablePlace, nameAt}
@@ -81,9 +81,9 @@ module _ (w : Name) (x : Line) (d : declares x ≡ w ∷ []) where
 pub recordOf : List Line → Name → ℕ
 recordOf xs w = cond (firstMakes makesLabel w xs) (rankBy makesLabel xs w) (howMany makesLabel xs + rankBy makesVariable xs w)
 
--- A record of a text's image: its name is one of the user's, and gives back the number.
+-- A record of a text's image: its name may be declared, and gives back the number.
 pub record Recorded (xs : List Line) (k : ℕ) : Type 0 where
-  pub user : userName (recordName (imageOf xs) k) ≡ true
+  pub free : freeName (recordName (imageOf xs) k) ≡ true
   pub number : recordOf xs (recordName (imageOf xs) k) ≡ k
 
 module _ (xs : List Line) (f : Fine xs) where
@@ -113,7 +113,7 @@ module _ (xs : List Line) (f : Fine xs) where
       ∙ rank-here makesLabel (l .name) (l .before) (Label (l .name)) (l .rest) once it
       ∙ l .rank in
       record {
-        user = ap userName n ∙ is-true (userName (l .name)) (g .heard);
+        free = ap freeName n ∙ is-true (freeName (l .name)) (g .heard);
         number = ap (recordOf xs) n ∙ rw (first, rank);
       }
 
@@ -136,7 +136,7 @@ module _ (xs : List Line) (f : Fine xs) where
       let rank : rankBy makesVariable xs (l .name) ≡ k =
       ap (λ (ys : List Line). rankBy makesVariable ys (l .name)) (l .whole) ∙ rank-here makesVariable (l .name) (l .before) x (l .rest) once it ∙ l .rank in
       record {
-        user = ap userName n ∙ is-true (userName (l .name)) (g .heard .0);
+        free = ap freeName n ∙ is-true (freeName (l .name)) (g .heard .0);
         number = ap (recordOf xs) n ∙ rw (first, rank);
       }
 

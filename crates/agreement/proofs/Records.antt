@@ -22,9 +22,10 @@ use Rattle.image.specs.Layout.{labelBytes, variableBytes, trailerBytes, cellCou
 use Rattle.image.proofs.Back.{name-back, label-back, start-back, zeros-back, cell-count-back, label-count-back, variable-count-back}
 use Rattle.translation.specs.Images.{cellPart, labelPart, variablePart, imageOf}
 use Rattle.translation.specs.Places.{starts}
+use Rattle.translation.proofs.Writing.{two-named}
 use Rattle.translation.proofs.Parts.{AllTwo, parts-length, labels-sized, variables-sized, cells-length, labels-length, variables-length}
 use Rattle.agreement.proofs.Sound.{Fine, good}
-use Rattle.agreement.proofs.Words.{all-two, two-named}
+use Rattle.agreement.proofs.Words.{all-two}
 use Rattle.agreement.proofs.Places.{here, variable-is, place-rank, rank-most, start-at, starts-length}
 
 -- What stands before the trailer.

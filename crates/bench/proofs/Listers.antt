@@ -11,6 +11,7 @@ use Rattle.numbers.specs.Bytes as B
 use Rattle.numbers.specs.Tests as Tests
 use Rattle.numbers.specs.Bytes.{ascii}
 use Rattle.program.specs.Cells as Cells
+use Rattle.program.specs.DriveWords as DriveWords
 use Rattle.program.specs.Names as Names
 use Rattle.program.specs.Statements as Statements
 use Rattle.program.specs.Variables as Variables
@@ -38,22 +39,22 @@ use Rattle.bench.proofs.Relisted.{list-decided}
 abbrev loopImage : List ℕ
 loopImage =
     padded (5 ∷ [])
-    ++ (65 ∷ 65 ∷ 0 ∷ 0 ∷ 65 ∷ 66 ∷ 0 ∷ 0
+    ++ (65 ∷ 65 ∷ 0 ∷ 0 ∷ 65 ∷ 67 ∷ 0 ∷ 0
     ∷ 16 ∷ 0 ∷ 0 ∷ 0 ∷ 1 ∷ 0 ∷ 2 ∷ 0 ∷ 0 ∷ 0 ∷ 1 ∷ 0 ∷ 40 ∷ 0 ∷ 0 ∷ 0 ∷ [])
 
 abbrev loopListing : List ℕ
-loopListing = ascii "LB AA\nLB AB\nBR AA\n"
+loopListing = ascii "LB AA\nLB AC\nBR AA\n"
 
 -- The same program with a space more, and with the other label for the target.
 abbrev spaced : List ℕ
-spaced = ascii "LB AA\nLB AB\nBR  AA\n"
+spaced = ascii "LB AA\nLB AC\nBR  AA\n"
 
 abbrev relabelled : List ℕ
-relabelled = ascii "LB AA\nLB AB\nBR AB\n"
+relabelled = ascii "LB AA\nLB AC\nBR AC\n"
 
 -- The image is accepted and lists so; and both other texts have this image.
 pub loop-holds : (checked loopImage ≡ 0) × (listing loopImage ≡ loopListing) × (image spaced ≡ loopImage) × (image relabelled ≡ loopImage)
-unfolding Bits.digits32 Bits.signed32 B.bytes B.number B.field B.ascii Tests.eqList Tests.allOf Tests.anyOf Tests.anyBelow Tests.firstBelow Tests.listed Tests.numbered Tests.lowest List.flatMap Cells.noTarget Cells.comparisonOf Cells.operandOf Cells.jumpOf Cells.cellOf Cells.valueOf Cells.conditionOf Cells.statementBy Cells.statementOf Names.letter Names.digit Names.wordCharacter Names.mnemonics Names.variableNames Names.paperVariable Names.reserved Names.twoCharacters Names.userName Statements.operands Statements.compared Variables.mostCells Variables.mostLabels Variables.mostVariables Faults.longLine Faults.badForm Faults.tooBig Faults.bigValue Faults.bigIn Faults.bigLiteral Faults.declares Faults.reservedName Faults.heard Faults.makesCell Faults.makesLabel Faults.makesVariable Faults.howMany Faults.declaresIt Faults.said Faults.placeOf Forms.literal Forms.variableName Forms.variable Forms.operand Forms.put Forms.word Forms.sign Forms.takes Forms.fill Forms.forms Forms.byForm Forms.statement Forms.reading Lines.ontoFirstLine Lines.lines Tokens.printable Tokens.uncommented Tokens.joins Tokens.ontoFirstToken Tokens.tokens Check.badLength Check.badEdition Check.badTrailer Check.layouts Check.goodWritten Check.goodSelector Check.goodOperand Check.goodTarget Check.fits Check.badCell Check.badCells Check.recordPlace Check.recordName Check.badName Check.badTarget Check.badRecords Check.imageFaults Check.checked Layout.shape Layout.operandNumber Layout.cellBytes Layout.labelBytes Layout.imageLength Layout.trailerBytes Layout.trailerPlace Layout.firstLabelPlace Layout.cellCount Layout.labelCount Layout.variableCount Layout.edition Layout.wholeLength Layout.operandAt Layout.cellAt Layout.labelPlace Layout.labelTarget Layout.variablePlace Layout.nameAt Images.cellPart Images.labelPart Images.variablePart Images.imageOf Images.image Listing.labelName Listing.conditionText Listing.statementText Listing.line Listing.variableLine Listing.labelLine Listing.labelLines Listing.cellLines Listing.listing
+unfolding Bits.digits32 Bits.signed32 B.bytes B.number B.field B.ascii Tests.eqList Tests.allOf Tests.anyOf Tests.anyBelow Tests.firstBelow Tests.listed Tests.numbered Tests.lowest List.flatMap Cells.noTarget Cells.comparisonOf Cells.operandOf Cells.jumpOf Cells.cellOf Cells.valueOf Cells.conditionOf Cells.statementBy Cells.statementOf Names.letter Names.digit Names.wordCharacter Names.mnemonics Names.variableNames Names.paperVariable Names.paperWord Names.twoCharacters Names.userName DriveWords.driveWords Names.reserved Names.freeName Statements.operands Statements.compared Variables.mostCells Variables.mostLabels Variables.mostVariables Faults.longLine Faults.badForm Faults.tooBig Faults.bigValue Faults.bigIn Faults.bigLiteral Faults.declares Faults.reservedName Faults.heard Faults.makesCell Faults.makesLabel Faults.makesVariable Faults.howMany Faults.declaresIt Faults.said Faults.placeOf Forms.literal Forms.variableName Forms.variable Forms.operand Forms.put Forms.word Forms.sign Forms.takes Forms.fill Forms.forms Forms.byForm Forms.statement Forms.reading Lines.ontoFirstLine Lines.lines Tokens.printable Tokens.uncommented Tokens.joins Tokens.ontoFirstToken Tokens.tokens Check.badLength Check.badEdition Check.badTrailer Check.layouts Check.goodWritten Check.goodSelector Check.goodOperand Check.goodTarget Check.fits Check.badCell Check.badCells Check.recordPlace Check.recordName Check.badName Check.badTarget Check.badRecords Check.imageFaults Check.checked Layout.shape Layout.operandNumber Layout.cellBytes Layout.labelBytes Layout.imageLength Layout.trailerBytes Layout.trailerPlace Layout.firstLabelPlace Layout.cellCount Layout.labelCount Layout.variableCount Layout.edition Layout.wholeLength Layout.operandAt Layout.cellAt Layout.labelPlace Layout.labelTarget Layout.variablePlace Layout.nameAt Images.cellPart Images.labelPart Images.variablePart Images.imageOf Images.image Listing.labelName Listing.conditionText Listing.statementText Listing.line Listing.variableLine Listing.labelLine Listing.labelLines Listing.cellLines Listing.listing
 loop-holds = (refl, refl, refl, refl)
 
 size : length loopListing ≡ 18
@@ -81,7 +82,7 @@ other-space answer rest l = let z : _≡_ {A = ℕ} 32 65 = ap (λ (b : List ℕ
 
 pub other-label : (answer : Listed) (rest : List ℕ) → Lists loopImage (fresh 64) answer (relabelled ++ rest) → ⊥
 unfolding ascii
-other-label answer rest l = let z : _≡_ {A = ℕ} 66 65 = ap (λ (b : List ℕ). getD b 16 0) (promised answer (relabelled ++ rest) l .1) in omega arith
+other-label answer rest l = let z : _≡_ {A = ℕ} 67 65 = ap (λ (b : List ℕ). getD b 16 0) (promised answer (relabelled ++ rest) l .1) in omega arith
 
 -- A lister that gives no image any bytes, with any number and buffer, whatever translator stands beside it: shut out by the request.
 pub lists-nothing : (translate : Translate) (list : ListImage) → ((s buffer : List ℕ) → list s buffer .answer .length ≡ 0) → Request1 translate list → ⊥

@@ -13,11 +13,11 @@ use lib.ListN.{length, getD}
 use Rattle.numbers.specs.Bytes.{bytes, number}
 use Rattle.numbers.specs.Tests.{eqList}
 use Rattle.numbers.proofs.Laws.{Bytes, there-and-back, bytes-field, field-below}
-use Rattle.program.specs.Names.{letter, digit, wordCharacter, reserved, twoCharacters, userName}
+use Rattle.program.specs.Names.{letter, digit, wordCharacter, twoCharacters, reserved, freeName}
 use Rattle.program.specs.Code.{nameOf}
 use Rattle.numbers.proofs.Truth.{both, either, same-test}
 use Rattle.numbers.proofs.Tests.{eqList-refl, eqList-eq}
-use Rattle.program.proofs.Keys.{two-bytes, user-bytes}
+use Rattle.program.proofs.Keys.{two-bytes, free-bytes}
 use Rattle.image.specs.Layout.{imageLength, cellCount, labelCount, variableCount, labelPlace, variablePlace, nameAt}
 use Rattle.image.specs.Check.{recordPlace, recordName, badName}
 use Rattle.image.proofs.Any.{same-search, told-true, told-false}
@@ -56,7 +56,7 @@ module _ (s : List ℕ) (byte : Bytes s) (fit : Fitting s) where
   unfolding badName badKey repeatedKey
   bad-key k h =
       ap₂ (λ (u v : Bool). not u || v)
-      (sym (ap userName (name-key k h) ∙ user-bytes (keyAt k) (key-below k)))
+      (sym (ap freeName (name-key k h) ∙ free-bytes (keyAt k) (key-below k)))
       (same-search k (λ j l. sym (ap₂ eqList (name-key j (omega arith)) (name-key k h) ∙ eq-bytes 2 (keyAt j) (keyAt k) (key-below j) (key-below k))))
 
 -- The second character of a name is at most a `Z`, so its number is below 91 * 256.
@@ -68,22 +68,22 @@ character-most c t =
     (λ d. let h = leb→le c 57 (both (leb 48 c) (leb c 57) d .1) in omega arith)
     (either (letter c) (digit c) t)
 
-pub name-below : (n : ℕ) → T (userName (nameOf n)) → n < 23296
-unfolding userName
+pub name-below : (n : ℕ) → T (freeName (nameOf n)) → n < 23296
+unfolding freeName
 name-below n t =
     let two = both (twoCharacters (nameOf n)) (not (reserved (nameOf n))) t .0 in
     let h = character-most (n / 256) (both (letter (n % 256)) (wordCharacter (n / 256)) (rw (two-bytes n) two) .1) in
     omega arith
 
--- A record's key, by whether it is a name of the user's, and by the marks of those before.
-module _ (cells labels : ℕ) (s : List ℕ) (k : ℕ) {n : ℕ} {u : Bool} (e : n ≡ keyOf cells labels s k) (eu : u ≡ userName (nameOf n)) where
-  pub not-users : not u ≡ true → badKey cells labels s k ≡ true
+-- A record's key, by whether it may be declared, and by the marks of those before.
+module _ (cells labels : ℕ) (s : List ℕ) (k : ℕ) {n : ℕ} {u : Bool} (e : n ≡ keyOf cells labels s k) (eu : u ≡ freeName (nameOf n)) where
+  pub not-free : not u ≡ true → badKey cells labels s k ≡ true
   unfolding badKey
-  not-users f = rw (← e, told-false eu f)
+  not-free f = rw (← e, told-false eu f)
 
   pub key-inside : not u ≡ false → n < 23296
   key-inside f = name-below n (rw (told-true eu f) tt)
 
-  pub users : {marks : List Bool} {t : Bool} → not u ≡ false → Marked 23296 (keyOf cells labels s) k marks → getD marks n false ≡ t → badKey cells labels s k ≡ t
+  pub free : {marks : List Bool} {t : Bool} → not u ≡ false → Marked 23296 (keyOf cells labels s) k marks → getD marks n false ≡ t → badKey cells labels s k ≡ t
   unfolding badKey repeatedKey
-  users f m et = rw (← e, told-true eu f) (sym (m .each n (key-inside f)) ∙ et)
+  free f m et = rw (← e, told-true eu f) (sym (m .each n (key-inside f)) ∙ et)

@@ -7,7 +7,7 @@ use Prim.Native.Nat.{ℕ, _+_, _-_}
 use lib.Dec.{eqb, leb, ltb}
 use Rattle.numbers.specs.Bytes.{field}
 use Rattle.numbers.specs.Tests.{anyBelow}
-use Rattle.program.specs.Names.{userName}
+use Rattle.program.specs.Names.{freeName}
 use Rattle.program.specs.Code.{nameOf}
 use Rattle.image.specs.Code.{labelPlaceOf, variablePlaceOf, targetOf}
 use Rattle.cells.specs.Code.{literalBits}
@@ -24,7 +24,7 @@ unfoldable pub repeatedKey : ℕ → ℕ → List ℕ → ℕ → Bool
 repeatedKey cells labels s k = anyBelow k (λ j. eqb (keyOf cells labels s j) (keyOf cells labels s k))
 
 unfoldable pub badKey : ℕ → ℕ → List ℕ → ℕ → Bool
-badKey cells labels s k = not (userName (nameOf (keyOf cells labels s k))) || repeatedKey cells labels s k
+badKey cells labels s k = not (freeName (nameOf (keyOf cells labels s k))) || repeatedKey cells labels s k
 
 -- The target of a label record is bad.
 unfoldable pub badTargetOf : ℕ → List ℕ → ℕ → Bool

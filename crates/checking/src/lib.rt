@@ -87,7 +87,7 @@ fn bad_names(s: &[u8]) -> bool
     let mut k: u16 = 0;
     while k < names {
         let key = key_at(s, cells, labels, k);
-        if !program::names::is_user_name(key) {
+        if !program::reserved::is_free_name(key) {
             return true;
         }
         let i = key as usize;

@@ -11,7 +11,7 @@ use Rattle.numbers.specs.Bytes.{ascii}
 use Rattle.numbers.specs.Tests.{eqList, numbered}
 use Rattle.numbers.proofs.Truth.{is-true, eqb-turn, if-below, of-both}
 use Rattle.numbers.proofs.Lists.{EachFrom, each-from}
-use Rattle.program.specs.Names.{letter, digit, wordCharacter, mnemonics, variableNames, paperVariable, reserved, twoCharacters, userName}
+use Rattle.program.specs.Names.{letter, digit, wordCharacter, mnemonics, variableNames, paperVariable, paperWord, twoCharacters, userName}
 use Rattle.program.specs.Code.{nameOf}
 use Rattle.text.specs.Forms.{variableName}
 use Rattle.text.specs.Code.{tokenAt}
@@ -156,7 +156,7 @@ module _ (ts : Tokens) where
   unlike k n h = ne-eqb first k (λ e. true≢false (sym h ∙ ap (λ (x : ℕ). variableName (nameOf x)) e ∙ n))
 
   assigns : variableName (nameOf first) ≡ true → firstForm first ≡ 3
-  unfolding firstForm variableName paperVariable userName twoCharacters reserved numbered mnemonics variableNames letter digit wordCharacter eqList ascii nameOf
+  unfolding firstForm variableName paperVariable userName twoCharacters paperWord numbered mnemonics variableNames letter digit wordCharacter eqList ascii nameOf
   assigns h =
       rw (
         unlike 16972 refl h,
@@ -186,7 +186,7 @@ module _ (ts : Tokens) where
       ok-before (ts .at) ss (behind (ts .at) m s) (next-ok (ts .at) s ss m z (next-ok (ts .at) 17743 (s ∷ ss) noMatch refl (all-ok (17743 ∷ s ∷ ss) h)))
 
   targeted : (ss : List ℕ) → Fits (17743 ∷ 2 ∷ ss) → eqb second 48 ≡ false
-  unfolding slotBy wordBy keptBy fitsBy userName twoCharacters reserved numbered letter digit wordCharacter nameOf
+  unfolding slotBy wordBy keptBy fitsBy userName twoCharacters paperWord numbered letter digit wordCharacter nameOf
   targeted ss h =
       ne-eqb second 48
       (λ e. true≢false (sym (and-eq-true-iff (eqb 17743 first) (userName (nameOf second)) .0 (second-ok 2 ss refl h) .1) ∙ ap (λ (x : ℕ). userName (nameOf x)) e))

@@ -8,7 +8,7 @@ use lib.ListN.{length}
 use Rattle.numbers.specs.Bytes.{field}
 use Rattle.numbers.specs.Bits.{signed32}
 use Rattle.numbers.specs.Tests.{eqList, anyOf, anyBelow, lowest}
-use Rattle.program.specs.Names.{Name, userName}
+use Rattle.program.specs.Names.{Name, freeName}
 use Rattle.program.specs.Variables.{inRange, literals, present, readOnly, mostCells, mostLabels, mostVariables}
 use Rattle.program.specs.Cells.{noTarget}
 use Rattle.image.specs.Layout.{imageLength, firstLabelPlace, cellCount, labelCount, variableCount, edition, wholeLength, labelPlace, labelTarget, variablePlace, startValue, nameAt}
@@ -110,9 +110,9 @@ recordPlace s k = cond (ltb k (labelCount s)) (labelPlace s k) (variablePlace s 
 unfoldable pub recordName : List ℕ → ℕ → Name
 recordName s k = nameAt s (recordPlace s k)
 
--- Refusals 27: a bad or reserved name, or one that a record before has.
+-- Refusals 27, Q-10 4: a bad or reserved name, or one that a record before has.
 unfoldable pub badName : List ℕ → ℕ → Bool
-badName s k = not (userName (recordName s k)) || anyBelow k (λ j. eqList (recordName s j) (recordName s k))
+badName s k = not (freeName (recordName s k)) || anyBelow k (λ j. eqList (recordName s j) (recordName s k))
 
 -- Refusals 27: a label target below the one before it, or over the cell count.
 unfoldable pub badTarget : List ℕ → ℕ → Bool

@@ -12,15 +12,15 @@ use Rattle.numbers.specs.Bytes.{field}
 use Rattle.numbers.specs.Tests.{anyOf, anyBelow, lowest, eqList}
 use Rattle.numbers.proofs.Truth.{true-is, neither}
 use Rattle.numbers.proofs.Tests.{none-below}
-use Rattle.program.specs.Names.{Name, userName}
+use Rattle.program.specs.Names.{Name, freeName}
 use Rattle.program.specs.Variables.{inRange, literals, mostCells, mostLabels, mostVariables}
 use Rattle.image.specs.Layout.{imageLength, firstLabelPlace, wholeLength, cellCount, labelCount, variableCount, labelPlace, variablePlace, startValue, nameAt}
 use Rattle.image.specs.Check.{badLength, badEdition, badTrailer, badCell, badCells, badName, badTarget, badStart, badRecords, imageFaults, checked, recordPlace, recordName, layouts, fits}
 
 -- An accepted image: what the listing rests on.
 pub record Accepted (s : List ℕ) : Type 0 where
-  pub label-name : (k : ℕ) → k < labelCount s → T (userName (nameAt s (labelPlace s k)))
-  pub variable-name : (k : ℕ) → k < variableCount s → T (userName (nameAt s (variablePlace s k)))
+  pub label-name : (k : ℕ) → k < labelCount s → T (freeName (nameAt s (labelPlace s k)))
+  pub variable-name : (k : ℕ) → k < variableCount s → T (freeName (nameAt s (variablePlace s k)))
   pub start-value : (k : ℕ) → k < variableCount s → T (inRange literals (startValue s k))
   pub layout : (k : ℕ) → k < cellCount s → T (anyOf (fits s (16 * k)) layouts)
   pub few-cells : cellCount s ≤ 256
@@ -42,9 +42,9 @@ lowest-step n true bs h e = absurd (omega arith)
 lowest-step n false bs h e = (refl, e)
 
 module _ (s : List ℕ) where
-  named-record : (k : ℕ) → badName s k ≡ false → T (userName (recordName s k))
+  named-record : (k : ℕ) → badName s k ≡ false → T (freeName (recordName s k))
   unfolding badName
-  named-record k e = true-is (userName (recordName s k)) (not-false (userName (recordName s k)) (neither (not (userName (recordName s k))) (anyBelow k (λ j. eqList (recordName s j) (recordName s k))) e .0))
+  named-record k e = true-is (freeName (recordName s k)) (not-false (freeName (recordName s k)) (neither (not (freeName (recordName s k))) (anyBelow k (λ j. eqList (recordName s j) (recordName s k))) e .0))
 
   pub record-label : (k : ℕ) → k < labelCount s → recordName s k ≡ nameAt s (labelPlace s k)
   unfolding recordName recordPlace
@@ -101,8 +101,8 @@ module _ (s : List ℕ) where
       let good = none-below (badName s) (labelCount s + variableCount s) (g .0) in
       let n = few (f .trailer) in
       record {
-        label-name = λ k l. subst (λ (w : Name). T (userName w)) (record-label k l) (named-record k (good k (omega arith)));
-        variable-name = λ k l. subst (λ (w : Name). T (userName w)) (record-variable k) (named-record (labelCount s + k) (good (labelCount s + k) (omega arith)));
+        label-name = λ k l. subst (λ (w : Name). T (freeName w)) (record-label k l) (named-record k (good k (omega arith)));
+        variable-name = λ k l. subst (λ (w : Name). T (freeName w)) (record-variable k) (named-record (labelCount s + k) (good (labelCount s + k) (omega arith)));
         start-value = λ k l. started k (none-below (badStart s) (variableCount s) (h .1) k l);
         layout = λ k l. fitted k (none-below (badCell s) (cellCount s) (f .cells) k l);
         few-cells = n .0;

@@ -27,7 +27,7 @@ use Rattle.listing.proofs.Resolved.{Written, Read, Aimed, Resolved, sta
 use Rattle.listing.proofs.Renamed.{refers-named}
 use Rattle.listing.proofs.Order.{cellLine}
 use Rattle.listing.proofs.Declaring.{label-declared, variable-declared}
-use Rattle.program.proofs.Keys.{user-no-paper}
+use Rattle.program.proofs.Keys.{user-no-paper, free-user}
 use Rattle.listing.proofs.Placed.{target-placed, paper-numbered, variable-numbered}
 
 module _ (s : List ℕ) (a : Accepted s) (r : Recorded s) where
@@ -78,7 +78,7 @@ module _ (s : List ℕ) (a : Accepted s) (r : Recorded s) where
   by-kind v Q t f g =
       by-present (variableCount s) v t
       (λ l m. f (rw (lt-ltb v 32 (omega arith)) (paper-numbered (v - 1) (omega arith) ∙ omega arith)) l)
-      (λ l m. g (rw (le-ltb v 32 l) (user-no-paper (nameOfVariable s (v - 32)) (a .variable-name (v - 32) (omega arith))))
+      (λ l m. g (rw (le-ltb v 32 l) (user-no-paper (nameOfVariable s (v - 32)) (free-user _ (a .variable-name (v - 32) (omega arith)))))
       (rw (le-ltb v 32 l) (variable-declared s r (v - 32) (omega arith))))
 
   known-variable : (v : ℕ) → T (present (variableCount s) v) → unknownVariable xs (variableName s v) ≡ false

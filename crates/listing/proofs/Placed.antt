@@ -13,7 +13,7 @@ use lib.ListN.{getD}
 use Rattle.numbers.specs.Bytes.{ascii}
 use Rattle.numbers.specs.Tests.{anyOf, allBelow, anyBelow, firstBelow, listed, eqList, numbered}
 use Rattle.program.specs.Names.{Name, variableNames, paperVariable}
-use Rattle.program.proofs.Keys.{user-no-paper}
+use Rattle.program.proofs.Keys.{user-no-paper, free-user}
 use Rattle.program.specs.Variables.{present}
 use Rattle.text.specs.Forms.{Line, Label}
 use Rattle.text.specs.Faults.{declares, declaresIt, howMany, makesCell, makesVariable, placeOf, rankOf, numberOf}
@@ -173,6 +173,6 @@ variable-numbered s a r v t =
     let f : suc (v - 1) ≡ v = omega arith in
     rw (lt-ltb v 32 (omega arith), e, f, ne-eqb v 0 (λ z. omega arith)))
     (λ l m.
-    let e = user-no-paper (nameOfVariable s (v - 32)) (a .variable-name (v - 32) (omega arith)) in
+    let e = user-no-paper (nameOfVariable s (v - 32)) (free-user _ (a .variable-name (v - 32) (omega arith))) in
     let k = variable-ranked s r (v - 32) (omega arith) in
     rw (le-ltb v 32 l, e, k) (omega arith))

@@ -15,7 +15,7 @@ use Rattle.numbers.specs.Bytes.{field}
 use Rattle.numbers.specs.Tests.{anyBelow, eqList}
 use Rattle.numbers.proofs.Tests.{eqList-refl, none-below}
 use Rattle.numbers.proofs.Truth.{neither}
-use Rattle.program.specs.Names.{Name, userName}
+use Rattle.program.specs.Names.{Name, freeName}
 use Rattle.program.specs.Variables.{inRange, literals}
 use Rattle.image.specs.Layout.{imageLength, firstLabelPlace, wholeLength, edition, cellCount, labelCount, variableCount, labelPlace, labelTarget, variablePlace, startValue, nameAt}
 use Rattle.image.specs.Check.{badEdition, badName, badTarget, badStart, badRecords, checked, recordName}
@@ -49,7 +49,7 @@ module _ (s : List ℕ) where
     below : (j k : ℕ) → j < k → k < labelCount s + variableCount s → recordName s j ≡ recordName s k → ⊥
     unfolding badName
     below j k l h e =
-        let n = neither (not (userName (recordName s k))) (anyBelow k (λ i. eqList (recordName s i) (recordName s k))) (good k h) .1 in
+        let n = neither (not (freeName (recordName s k))) (anyBelow k (λ i. eqList (recordName s i) (recordName s k))) (good k h) .1 in
         let f : eqList (recordName s j) (recordName s k) ≡ false = none-below (λ i. eqList (recordName s i) (recordName s k)) k n j l in
         subst T f (subst (λ (w : Name). T (eqList (recordName s j) w)) e (eqList-refl (recordName s j)))
 

@@ -11,7 +11,7 @@ use Rattle.numbers.specs.Bytes.{ascii}
 use Rattle.numbers.specs.Tests.{eqList, numbered}
 use Rattle.numbers.proofs.Tests.{eqList-refl}
 use Rattle.numbers.proofs.Truth.{is-true}
-use Rattle.program.specs.Names.{Name, letter, digit, wordCharacter, twoCharacters, userName, paperVariable, reserved, mnemonics, variableNames}
+use Rattle.program.specs.Names.{Name, letter, digit, wordCharacter, twoCharacters, userName, paperVariable, paperWord, mnemonics, variableNames}
 use Rattle.program.specs.Variables.{inRange, literals}
 use Rattle.program.specs.Statements.{Value, Literal, Variable, Condition, Always, Compare, Statement, Set, SetWith, IC, DC, BR, CL, H, Hold, OE, Disarm, MA, MR, SL, PR, Operator, Comparison}
 use Rattle.text.specs.Tokens.{Token}
@@ -83,7 +83,7 @@ fill-over (Variable w) g ts p = refl
 
 -- All that the table of forms computes with.
 unfoldable pub table : Unit {0}
-unfolding statement byForm forms fill takes put word eqList ascii variableName paperVariable variableNames userName twoCharacters reserved mnemonics numbered letter wordCharacter digit
+unfolding statement byForm forms fill takes put word eqList ascii variableName paperVariable variableNames userName twoCharacters paperWord mnemonics numbered letter wordCharacter digit
 table = tt
 
 -- The two rows of BR and of CL, behind the mnemonic.

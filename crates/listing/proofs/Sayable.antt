@@ -16,6 +16,7 @@ use Rattle.program.specs.Variables.{present}
 use Rattle.program.specs.Statements.{Value, Literal, Variable}
 use Rattle.program.specs.Cells.{statementOf}
 use Rattle.program.proofs.Ranges.{by-present}
+use Rattle.program.proofs.Keys.{free-user}
 use Rattle.program.proofs.Statements.{refers-then}
 use Rattle.text.specs.Forms as F
 use Rattle.image.specs.Layout.{labelCount, variableCount, cellAt, labelTarget, variablePlace, nameAt}
@@ -41,11 +42,11 @@ module _ (s : List ℕ) (a : Accepted s) where
       by-present (variableCount s) v t
       (λ l m. rw (lt-ltb v 32 (omega arith)) (paper-named (v - 1) (omega arith)))
       (λ l m. rw (le-ltb v 32 l)
-      (right-of (not (eqb (paperVariable (nameAt s (variablePlace s (v - 32)))) 0)) (userName (nameAt s (variablePlace s (v - 32)))) (a .variable-name (v - 32) (omega arith))))
+      (right-of (not (eqb (paperVariable (nameAt s (variablePlace s (v - 32)))) 0)) (userName (nameAt s (variablePlace s (v - 32)))) (free-user _ (a .variable-name (v - 32) (omega arith)))))
 
   named-label : (n : ℕ) → T (anyBelow (labelCount s) (λ k. eqb (labelTarget s k) n)) → T (userName (labelName s n))
   unfolding labelName
-  named-label n t = a .label-name (firstBelow (labelCount s) (λ k. eqb (labelTarget s k) n)) (first-found (λ k. eqb (labelTarget s k) n) (labelCount s) t)
+  named-label n t = free-user _ (a .label-name (firstBelow (labelCount s) (λ k. eqb (labelTarget s k) n)) (first-found (λ k. eqb (labelTarget s k) n) (labelCount s) t))
 
   named-value : (x : Value ℕ) → Read s x → Sound (valueNamed s x)
   unfolding valueNamed

@@ -1,4 +1,4 @@
--- As many names of the user's as an image may have, no two of them the same.
+-- As many names that may be declared as an image may have, no two of them the same.
 -- Assumes nothing.
 use mathlib.Core.Path.{_≡_, refl, ap}
 use mathlib.Core.Bool.{false, not}
@@ -9,24 +9,25 @@ use borrow.Author.Tests.{eqb-false}
 use lib.Dec.{eqb}
 use lib.ListN.{getD}
 use Rattle.numbers.specs.Bytes.{ascii}
-use Rattle.numbers.specs.Tests.{anyBelow, eqList, numbered}
+use Rattle.numbers.specs.Tests.{anyBelow, anyOf, eqList}
 use Rattle.numbers.proofs.Tests.{none-below, eqList-eq}
 use Rattle.numbers.proofs.Truth.{is-no, if-same}
-use Rattle.program.specs.Names.{Name, letter, digit, wordCharacter, mnemonics, variableNames, paperVariable, reserved, twoCharacters, userName}
+use Rattle.program.specs.DriveWords.{driveWords}
+use Rattle.program.specs.Names.{Name, letter, digit, wordCharacter, twoCharacters, reserved, freeName}
 
--- The letters that no word of the language has before a digit, and a name of such a letter and a digit for each number below 200.
+-- The letters that no word of the drives has before a digit, and a name of such a letter and a digit for each number below 200.
 abbrev letterOf : ℕ → ℕ
 letterOf k = getD (ascii "ABEGHJKLMNPQSTUVWXYZ") k 0
 
 abbrev pub nameOf : ℕ → Name
 nameOf k = letterOf (k / 10) ∷ (48 + k % 10) ∷ []
 
-none-bad : anyBelow 192 (λ k. not (userName (nameOf k))) ≡ false
-unfolding anyBelow userName twoCharacters reserved mnemonics variableNames paperVariable letter wordCharacter digit ascii numbered eqList
+none-bad : anyBelow 192 (λ k. not (freeName (nameOf k))) ≡ false
+unfolding anyBelow freeName twoCharacters reserved driveWords letter wordCharacter digit ascii anyOf eqList
 none-bad = refl
 
-pub name-good : (k : ℕ) → k < 192 → not (userName (nameOf k)) ≡ false
-name-good k h = none-below (λ i. not (userName (nameOf i))) 192 none-bad k h
+pub name-good : (k : ℕ) → k < 192 → not (freeName (nameOf k)) ≡ false
+name-good k h = none-below (λ i. not (freeName (nameOf i))) 192 none-bad k h
 
 -- The letters are different, and so are the names.
 letters-apart : anyBelow 20 (λ k. anyBelow k (λ j. eqb (letterOf j) (letterOf k))) ≡ false

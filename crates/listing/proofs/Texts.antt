@@ -11,12 +11,12 @@ use lib.ListN.{getD}
 use Rattle.numbers.specs.Bytes.{ascii, number, field}
 use Rattle.numbers.specs.Tests.{firstBelow}
 use Rattle.numbers.proofs.Tests.{first-found, first-passes}
-use Rattle.program.specs.Names.{Name, mnemonics, variableNames, userName}
+use Rattle.program.specs.Names.{Name, mnemonics, variableNames, freeName}
 use Rattle.program.specs.Variables.{present}
 use Rattle.program.specs.Statements.{Value, Literal, Variable, Always, Compare, Statement, Set, SetWith, IC, DC, BR, CL, RT, E, H, Hold, OE, Disarm, MA, MR, SL, PR, operands, compared, writes, targets}
 use Rattle.program.specs.Cells.{noTarget, same, operandOf, jumpOf, cellOf, statementOf}
 use Rattle.program.specs.Code.{key}
-use Rattle.program.proofs.Keys.{IsWord, single, double, user-word, paper-word, key-positive}
+use Rattle.program.proofs.Keys.{IsWord, single, double, free-word, paper-word, key-positive}
 use Rattle.program.proofs.Ranges.{by-present}
 use Rattle.program.proofs.Selectors.{operator-back, comparison-back, comparison-some}
 use Rattle.text.specs.Forms.{comparisonSign}
@@ -50,16 +50,16 @@ module _ (s : List ℕ) (a : Accepted s) (r : Recorded s) where
 
   -- ---- names
 
-  recorded-word : (place : ℕ) → T (userName (nameAt s place)) → packed (field 2 place s) ≡ nameAt s place
+  recorded-word : (place : ℕ) → T (freeName (nameAt s place)) → packed (field 2 place s) ≡ nameAt s place
   unfolding nameAt field key
-  recorded-word place t = packed-word (nameAt s place) (user-word (nameAt s place) t)
+  recorded-word place t = packed-word (nameAt s place) (free-word (nameAt s place) t)
 
   variable-word : (v : ℕ) → T (present (variableCount s) v) → IsWord (variableName s v)
   unfolding variableName
   variable-word v t =
       by-present (variableCount s) v t
       (λ l m. rw (lt-ltb v 32 (omega arith)) (paper-word (getD variableNames (v - 1) []) (λ e. let p = paper-numbered (v - 1) (omega arith) in omega arith)))
-      (λ l m. rw (le-ltb v 32 l) (user-word (nameAt s (variablePlace s (v - 32))) (a .variable-name (v - 32) (omega arith))))
+      (λ l m. rw (le-ltb v 32 l) (free-word (nameAt s (variablePlace s (v - 32))) (a .variable-name (v - 32) (omega arith))))
 
   variable-low : (v : ℕ) → T (present (variableCount s) v) → (1 ≤ v) × (v < 64)
   variable-low v t = by-present (variableCount s) v t (λ l m. (l, omega arith)) (λ l m. (omega arith, omega (arith, a .few-variables)))
@@ -69,7 +69,7 @@ module _ (s : List ℕ) (a : Accepted s) (r : Recorded s) where
 
   label-word : (n : ℕ) → Aimed s n → IsWord (labelName s n)
   unfolding labelName
-  label-word n t = user-word _ (a .label-name (firstBelow (labelCount s) (λ k. eqb (labelTarget s k) n)) (first-found (λ k. eqb (labelTarget s k) n) (labelCount s) t))
+  label-word n t = free-word _ (a .label-name (firstBelow (labelCount s) (λ k. eqb (labelTarget s k) n)) (first-found (λ k. eqb (labelTarget s k) n) (labelCount s) t))
 
   -- A target that a label has is a cell, or the place behind the last.
   target-low : (n : ℕ) → Aimed s n → n < 257

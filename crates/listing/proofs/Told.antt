@@ -13,17 +13,17 @@ use Rattle.numbers.specs.Bytes.{ascii}
 use Rattle.numbers.specs.Tests.{allOf, anyOf}
 use Rattle.numbers.proofs.Tests.{Each, each-then, each-none, all-append}
 use Rattle.numbers.proofs.Truth.{is-true}
-use Rattle.program.specs.Names.{Name, letter, digit, wordCharacter, reserved, userName}
+use Rattle.program.specs.Names.{Name, letter, digit, wordCharacter, twoCharacters, reserved, userName, freeName}
 use Rattle.program.specs.Variables.{inRange, literals}
 use Rattle.program.specs.Statements.{Value, Literal, Variable, Condition, Always, Compare, Statement, Set, SetWith, IC, DC, BR, CL, RT, E, H, Hold, OE, Disarm, MA, MR, SL, PR, operands, writes, targets, compared, Operator}
-use Rattle.program.proofs.Keys.{user-two}
+use Rattle.program.proofs.Keys.{free-two, free-not-reserved}
 use Rattle.program.proofs.Statements.{Refers}
 use Rattle.text.specs.Tokens.{Token, tokens, joins, ontoFirstToken, printable, uncommented}
 use Rattle.text.specs.Forms.{Line, Label, Declared, Acts, operatorSign, comparisonSign, variableName, statement, reading}
 use Rattle.text.specs.Faults.{longLine, badForm, tooBig, bigValue, bigIn, bigLiteral, declares, reservedName, heard}
 use Rattle.printing.specs.Listing.{plain}
 use Rattle.listing.proofs.Tokens.{token, follows, Stops, fine, fine-printable, fine-uncommented}
-use Rattle.listing.proofs.Values.{spelt, spelling, Spelt, user-free, user-spelt, variable-spelt, tokens-name, name-fine, valueTold, Sound, valueTokens, tokens-value, value-fine, Starts, value-starts}
+use Rattle.listing.proofs.Values.{spelt, spelling, Spelt, two-spelt, user-spelt, variable-spelt, tokens-name, name-fine, valueTold, Sound, valueTokens, tokens-value, value-fine, Starts, value-starts}
 use Rattle.listing.proofs.Signs.{Sign, equals, comma, operator-sign, comparison-sign}
 use Rattle.listing.proofs.Rows.{table, says-LB, says-VA, says-IC, says-DC, says-BR, says-CL, says-OE, says-BR-if, says-CL-if, says-MA, says-MR, says-SL, says-PR, says-hold, says-set, says-set-with}
 
@@ -92,19 +92,19 @@ unfolding ascii allOf wordCharacter letter digit
 letters = tt
 
 -- The lines that declare.
-pub reads-label : (w : Name) → T (userName w) → Printed (ascii "LB " ++ w) (Label w)
+pub reads-label : (w : Name) → T (twoCharacters w) → Printed (ascii "LB " ++ w) (Label w)
 unfolding letters
 reads-label w t =
-    printed (ascii "LB " ++ w) (Label w) (part-mnemonic (ascii "LB") tt (name-last w (user-spelt w t)))
-    (says-LB w false false (user-two w t))
+    printed (ascii "LB " ++ w) (Label w) (part-mnemonic (ascii "LB") tt (name-last w (two-spelt w t)))
+    (says-LB w false false t)
 
-pub reads-declared : (w : Name) (z : ℤ) → T (userName w) → T (inRange literals z) → Printed (ascii "VA " ++ (w ++ (ascii "=" ++ plain z))) (Declared w z)
+pub reads-declared : (w : Name) (z : ℤ) → T (twoCharacters w) → T (inRange literals z) → Printed (ascii "VA " ++ (w ++ (ascii "=" ++ plain z))) (Declared w z)
 unfolding letters
 reads-declared w z t r =
     let v = part-sign (value-last (Literal z) r) (ascii "=") equals (starts-last (Literal z) r) in
     printed (ascii "VA " ++ (w ++ (ascii "=" ++ plain z))) (Declared w z)
-    (part-mnemonic (ascii "VA") tt (part-name v w (user-spelt w t) (equals .stops (plain z))))
-    (says-VA w z false _ _ false (user-two w t) r)
+    (part-mnemonic (ascii "VA") tt (part-name v w (two-spelt w t) (equals .stops (plain z))))
+    (says-VA w z false _ _ false t r)
 
 -- A variable set.
 pub reads-set : (v : Name) (x : Value Name) → T (variableName v) → Sound x → Printed (v ++ (ascii "=" ++ valueTold x)) (Acts (Set v x))
@@ -279,18 +279,18 @@ hears-statement a h s =
     let p = reads-statement a h in
     record { kind = p .kind; hears = heard-printed (told a) (Acts a) p s (small a h) refl }
 
-pub hears-label : (w : Name) → T (userName w) → length (ascii "LB " ++ w) ≤ 64 → Heard (ascii "LB " ++ w) (Label w)
+pub hears-label : (w : Name) → T (freeName w) → length (ascii "LB " ++ w) ≤ 64 → Heard (ascii "LB " ++ w) (Label w)
 unfolding bigIn declares anyOf
 hears-label w t s =
-    let p = reads-label w t in
-    record { kind = p .kind; hears = heard-printed (ascii "LB " ++ w) (Label w) p s refl (rw (user-free w t)) }
+    let p = reads-label w (free-two w t) in
+    record { kind = p .kind; hears = heard-printed (ascii "LB " ++ w) (Label w) p s refl (rw (free-not-reserved w t)) }
 
-pub hears-declared : (w : Name) (z : ℤ) → T (userName w) → T (inRange literals z) → length (ascii "VA " ++ (w ++ (ascii "=" ++ plain z))) ≤ 64
+pub hears-declared : (w : Name) (z : ℤ) → T (freeName w) → T (inRange literals z) → length (ascii "VA " ++ (w ++ (ascii "=" ++ plain z))) ≤ 64
     → Heard (ascii "VA " ++ (w ++ (ascii "=" ++ plain z))) (Declared w z)
 unfolding bigIn declares anyOf tooBig
 hears-declared w z t r s =
-    let p = reads-declared w z t r in
+    let p = reads-declared w z (free-two w t) r in
     record {
       kind = p .kind;
-      hears = heard-printed (ascii "VA " ++ (w ++ (ascii "=" ++ plain z))) (Declared w z) p s (rw (is-true (inRange literals z) r)) (rw (user-free w t));
+      hears = heard-printed (ascii "VA " ++ (w ++ (ascii "=" ++ plain z))) (Declared w z) p s (rw (is-true (inRange literals z) r)) (rw (free-not-reserved w t));
     }

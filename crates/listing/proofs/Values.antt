@@ -12,7 +12,7 @@ use lib.IntN.{pos, negsuc}
 use lib.ListN.{length, getD}
 use Rattle.numbers.specs.Bytes.{ascii}
 use Rattle.numbers.specs.Tests.{allOf, eqList, numbered}
-use Rattle.program.specs.Names.{Name, letter, digit, wordCharacter, variableNames, paperVariable, reserved, twoCharacters, userName}
+use Rattle.program.specs.Names.{Name, letter, digit, wordCharacter, variableNames, paperVariable, twoCharacters, userName}
 use Rattle.program.specs.Variables.{inRange, literals}
 use Rattle.program.specs.Statements.{Value, Literal, Variable}
 use Rattle.numbers.proofs.Truth.{not-same, both, both-of, either, is-true, is-false, is-no, left-of}
@@ -59,11 +59,7 @@ two-spelt (a ∷ b ∷ c ∷ w) t =
     let e = eqb→eq (length (a ∷ b ∷ c ∷ w)) 2 (both (eqb (length (a ∷ b ∷ c ∷ w)) 2) (letter a && wordCharacter b) t .0) in
     absurd (omega arith)
 
--- A name of the user's has two characters, is free, and is spelt so.
-pub user-free : (w : Name) → T (userName w) → reserved w ≡ false
-unfolding userName
-user-free w t = is-false (reserved w) (both (twoCharacters w) (not (reserved w)) t .1)
-
+-- A name of the user's has two characters, and is spelt so.
 pub user-spelt : (w : Name) → T (userName w) → Spelt w
 user-spelt w t = two-spelt w (user-two w t)
 

@@ -10,7 +10,7 @@ use lib.ListN.{length, take, drop, replicate, length-replicate}
 use Rattle.numbers.proofs.Truth.{of-both}
 use Rattle.numbers.proofs.Tests.{Each}
 use Rattle.program.specs.Names.{Name}
-use Rattle.program.proofs.Keys.{name-key, user-word}
+use Rattle.program.proofs.Keys.{name-key, free-word, free-user}
 use Rattle.text.specs.Forms.{Line, Blank, Label, Declared, Acts}
 use Rattle.text.specs.Lines.{lines}
 use Rattle.text.specs.Faults.{heard, said}
@@ -28,8 +28,8 @@ use Rattle.names.proofs.Lines.{said-next, said-end, few-said}
 -- The names that a text declares are the user's. So its rows tell what the paper's walks find.
 spelt : (x : Line) → Fine x → Spelt x
 spelt Blank f = tt
-spelt (Label w) f = f
-spelt (Declared w z) f = f .0
+spelt (Label w) f = free-user w f
+spelt (Declared w z) f = free-user w (f .0)
 spelt (Acts s) f = tt
 
 all-spelt : (ls : List (List ℕ)) → Each Spelt (map heard ls)
@@ -48,8 +48,8 @@ near s w = omega (arith, Seeking.near (said s) w (all-spelt (lines s)), few-said
 entered-by : (n c v : ℕ) (x : Line) (rows : List Row) → Fine x → enteredBy n c v (saidBy x .kind) (saidBy x .name) rows ≡ entered n c v x rows
 unfolding enteredBy made entered saidBy
 entered-by n c v Blank rows f = refl
-entered-by n c v (Label w) rows f = ap (λ (u : Name). enter rows u (row 1 n c)) (name-key w (user-word w f))
-entered-by n c v (Declared w z) rows f = ap (λ (u : Name). enter rows u (row 2 n v)) (name-key w (user-word w (f .0)))
+entered-by n c v (Label w) rows f = ap (λ (u : Name). enter rows u (row 1 n c)) (name-key w (free-word w f))
+entered-by n c v (Declared w z) rows f = ap (λ (u : Name). enter rows u (row 2 n v)) (name-key w (free-word w (f .0)))
 entered-by n c v (Acts s) rows f = refl
 
 pub entered-long : (n c v kind k : ℕ) (rows : List Row) → length (enteredBy n c v kind k rows) ≡ length rows

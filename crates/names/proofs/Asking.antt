@@ -20,7 +20,7 @@ use Rattle.program.specs.Statements.{Literal, Variable, Statement, operands}
 use Rattle.program.specs.declared.Operand.{Operand}
 use Rattle.program.specs.declared.Operand.the-variants as O
 use Rattle.program.proofs.Statements.{cell-has, both-read}
-use Rattle.program.proofs.Keys.{key-below, name-key, user-word}
+use Rattle.program.proofs.Keys.{key-below, name-key, free-word}
 use Rattle.text.specs.Forms.{Line, Blank, Label, Declared, Acts}
 use Rattle.text.specs.Faults.{said, heard, declares, declaresIt, repeated, tooMany, undeclared, unknownVariable, unknownValue, readOnlyWritten, faults}
 use Rattle.reading.specs.Code.{saidBy, readingOf, inOperand, declaring}
@@ -101,8 +101,8 @@ any-there w before x after d = any-append (declaresIt w) before (x ∷ after) �
 own-name : (x : Line) → Fine x → declaring (saidBy x .kind) ≡ true → declaresIt (nameOf (saidBy x .name)) x ≡ true
 unfolding declaresIt declares declaring saidBy anyOf
 own-name Blank f d = d
-own-name (Label w) f d = rw (name-key w (user-word w f), is-true (eqList w w) (eqList-refl w))
-own-name (Declared w z) f d = rw (name-key w (user-word w (f .0)), is-true (eqList w w) (eqList-refl w))
+own-name (Label w) f d = rw (name-key w (free-word w f), is-true (eqList w w) (eqList-refl w))
+own-name (Declared w z) f d = rw (name-key w (free-word w (f .0)), is-true (eqList w w) (eqList-refl w))
 own-name (Acts s) f d = d
 
 -- What the rows of a text tell is what the paper asks of it.

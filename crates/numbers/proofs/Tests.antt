@@ -10,7 +10,7 @@ use borrow.Author.Tests.{lt-ltb, le-ltb, ltb-true, ltb-false}
 use lib.Dec.{T, eqb, ltb, eqb→eq, eqb-refl}
 use lib.ListN.{length, getD}
 use Rattle.numbers.specs.Tests.{eqList, allOf, anyOf, allBelow, anyBelow, firstBelow, listed, numbered}
-use Rattle.numbers.proofs.Truth.{is-true, true-is, both, both-of, either, neither, if-same}
+use Rattle.numbers.proofs.Truth.{is-true, true-is, both, both-of, either, left-of, right-of, neither, if-same}
 
 -- ---- over lists
 
@@ -70,6 +70,11 @@ module _ {A : Type 0} (p : A → Bool) where
   unfolding allOf
   all-then q f [] h = tt
   all-then q f (x ∷ a) h = let c = both (p x) (allOf p a) h in both-of (q x) (allOf q a) (f x (c .0)) (all-then q f a (c .1))
+
+  pub any-then : (q : A → Bool) → ((x : A) → T (p x) → T (q x)) → (a : List A) → T (anyOf p a) → T (anyOf q a)
+  unfolding anyOf
+  any-then q f [] t = absurd t
+  any-then q f (x ∷ a) t = ⊎-elim (λ h. left-of (q x) (anyOf q a) (f x h)) (λ h. right-of (q x) (anyOf q a) (any-then q f a h)) (either (p x) (anyOf p a) t)
 
   -- What follows from the test on each element follows where it holds of some.
   pub from-any : (Q : Type 0) (xs : List A) → Each (λ x. T (p x) → Q) xs → T (anyOf p xs) → Q
@@ -224,3 +229,14 @@ numbered-all p (x ∷ words) w a h =
     (λ t. subst (λ (u : List ℕ). T (p u)) (eqList-eq x w t) (c .0))
     (λ g. numbered-all p words w (c .1) g)
     (numbered-next (eqList x w) (numbered words w) h)
+
+-- And of a word that is the same as one of them.
+pub member-all : (p : List ℕ → Bool) (words : List (List ℕ)) (w : List ℕ) → T (allOf p words) → T (anyOf (eqList w) words) → T (p w)
+unfolding allOf anyOf
+member-all p [] w a t = absurd t
+member-all p (x ∷ words) w a t =
+    let c = both (p x) (allOf p words) a in
+    ⊎-elim
+    (λ e. subst (λ (u : List ℕ). T (p u)) (sym (eqList-eq w x e)) (c .0))
+    (member-all p words w (c .1))
+    (either (eqList w x) (anyOf (eqList w) words) t)

@@ -14,7 +14,7 @@ use Rattle.numbers.specs.Bytes.{number}
 use Rattle.numbers.specs.Tests.{allOf, anyOf, lowest}
 use Rattle.numbers.proofs.Tests.{Each}
 use Rattle.numbers.proofs.Truth.{neither, both, both-of, either}
-use Rattle.program.specs.Names.{Name, letter, digit, wordCharacter, reserved, paperVariable, twoCharacters, userName}
+use Rattle.program.specs.Names.{Name, letter, digit, wordCharacter, paperVariable, twoCharacters, reserved, userName, freeName}
 use Rattle.program.specs.Variables.{readOnly, mostCells, mostLabels, mostVariables}
 use Rattle.program.specs.Code.{key, nameOf}
 use Rattle.program.specs.Cells as Cells
@@ -23,7 +23,7 @@ use Rattle.program.specs.Statements as Said
 use Rattle.program.specs.Statements.{Literal, Variable, Always, Compare, Statement, operands, writes, targets, compared, Set, SetWith, IC, DC, BR, CL, RT, E, H, Hold, OE, Disarm, MA, MR, SL, PR}
 use Rattle.program.specs.declared.Operand.{Operand}
 use Rattle.program.specs.declared.Operand.the-variants as O
-use Rattle.program.proofs.Keys.{name-key, key-positive, user-word, user-two}
+use Rattle.program.proofs.Keys.{name-key, key-positive, user-word, user-two, free-word}
 use Rattle.program.proofs.Statements as Fields
 use Rattle.text.specs.Tokens as Paper
 use Rattle.text.specs.Tokens.{printable, uncommented, tokens}
@@ -62,15 +62,15 @@ reading-sound l = pick (allOf printable l)
     pick true = statement-sound (tokens (uncommented l))
     pick false = tt
 
--- What is known of a line that is heard: declared names are the user's, no literal is too big, and names are words.
+-- What is known of a line that is heard: it may declare its name, no literal is too big, and names are words.
 abbrev pub Fine : Line → Type 0
 Fine Blank = Unit
-Fine (Label w) = T (userName w)
-Fine (Declared w z) = T (userName w) × (tooBig z ≡ false)
+Fine (Label w) = T (freeName w)
+Fine (Declared w z) = T (freeName w) × (tooBig z ≡ false)
 Fine (Acts s) = Named s × (anyOf bigValue (operands s) ≡ false)
 
-own-name : (w : Name) → T (twoCharacters w) → (reserved w || false) ≡ false → T (userName w)
-unfolding userName
+own-name : (w : Name) → T (twoCharacters w) → (reserved w || false) ≡ false → T (freeName w)
+unfolding freeName
 own-name w t e = both-of (twoCharacters w) (not (reserved w)) t (subst (λ (b : Bool). T (not b)) (sym (neither (reserved w) false e .0)) tt)
 
 fine : (x : Line) → Sound x → bigIn x ≡ false → anyOf reserved (declares x) ≡ false → Fine x
@@ -289,9 +289,9 @@ pub repeated-asked : (before : List Line) (x : Line) → Fine x
 unfolding repeated declares anyOf saidBy
 repeated-asked before Blank f = refl
 repeated-asked before (Label v) f =
-    or-false (anyOf (declaresIt v) before) ∙ ap (λ (w : Name). anyOf (declaresIt w) before) (sym (name-key v (user-word v f)))
+    or-false (anyOf (declaresIt v) before) ∙ ap (λ (w : Name). anyOf (declaresIt w) before) (sym (name-key v (free-word v f)))
 repeated-asked before (Declared v z) f =
-    or-false (anyOf (declaresIt v) before) ∙ ap (λ (w : Name). anyOf (declaresIt w) before) (sym (name-key v (user-word v (f .0))))
+    or-false (anyOf (declaresIt v) before) ∙ ap (λ (w : Name). anyOf (declaresIt w) before) (sym (name-key v (free-word v (f .0))))
 repeated-asked before (Acts s) f = refl
 
 pub too-many-asked : (before : List Line) (x : Line)

@@ -8,9 +8,10 @@ use native.Mathlib.Omega.{arith}
 use borrow.Author.Tests.{eqb-true, ne-eqb}
 use lib.Dec.{eqb}
 use Rattle.numbers.specs.Bytes.{number, ascii}
-use Rattle.numbers.specs.Tests.{eqList, numbered}
+use Rattle.numbers.specs.Tests.{anyOf, eqList}
 use Rattle.numbers.proofs.Truth.{is-true, is-no, if-same, cond-no}
-use Rattle.program.specs.Names.{reserved, mnemonics, variableNames, paperVariable}
+use Rattle.program.specs.DriveWords.{driveWords}
+use Rattle.program.specs.Names.{reserved}
 use Rattle.program.specs.Code.{key, nameOf}
 use Rattle.program.proofs.Keys.{key-name}
 use Rattle.text.specs.Forms.{Parts}
@@ -32,7 +33,7 @@ key-spelt k = pick (eqb k 0) refl
     pick false e = key-name k
 
 reserved-none : reserved (nameOf 0) ≡ reserved []
-unfolding reserved paperVariable numbered mnemonics variableNames eqList ascii nameOf
+unfolding reserved driveWords anyOf eqList ascii nameOf
 reserved-none = refl
 
 pub reserved-spelt : (k : ℕ) → reserved (nameOf k) ≡ reserved (spelt k)

@@ -5,7 +5,7 @@ use cells::ONE;
 use cells::TWO;
 use forms::Match;
 use program::Cell;
-use program::names;
+use program::reserved;
 use text::tokens;
 use text::tokens::Tokens;
 ghost use mathlib.Core.Path.{_≡_};
@@ -107,7 +107,7 @@ fn acts(parts: Match, form: usize) -> Reading
 fn declares(parts: Match, kind: u8) -> Reading
     ensures { λ r. ⌜ r ≡ declaresBy kind (partsOf parts) ⌝ }
 {
-    if names::is_reserved(parts.name) {
+    if reserved::is_reserved(parts.name) {
         return Reading::faulty(Reading::RESERVED_NAME);
     }
     let start = parts.start;

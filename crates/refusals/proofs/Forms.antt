@@ -14,7 +14,7 @@ use Rattle.numbers.specs.Bytes.{ascii}
 use Rattle.numbers.specs.Tests.{allOf, anyOf, allBelow, eqList, numbered}
 use Rattle.numbers.proofs.Truth.{both, either, left-of, right-of}
 use Rattle.numbers.proofs.Tests.{eqList-eq}
-use Rattle.program.specs.Names.{Name, letter, digit, wordCharacter, mnemonics, variableNames, paperVariable, reserved, twoCharacters, userName}
+use Rattle.program.specs.Names.{Name, letter, digit, wordCharacter, mnemonics, variableNames, paperVariable, paperWord, twoCharacters, userName}
 use Rattle.text.specs.Tokens.{Token}
 use Rattle.text.specs.Forms.{Line, Blank, variableName, Slot, Is, New, Target, Written, Left, Right, Start, Operating, Comparing, Parts, noParts, fill, Form, form, forms, byForm}
 use Rattle.refusals.proofs.Slots.{suits, signed, asked, Took, one, two, Fits, done, step, fill-fits}
@@ -103,7 +103,7 @@ abbrev distinct : ℕ → ℕ → Bool
 distinct i j = eqb i j || (apart (formAt i .slots) (formAt j .slots) || apart (formAt j .slots) (formAt i .slots))
 
 table-distinct : T (allBelow 21 (λ i. allBelow 21 (distinct i)))
-unfolding allBelow apart forms ascii asked signed suits anyOf eqList variableName paperVariable variableNames numbered userName twoCharacters reserved mnemonics letter wordCharacter
+unfolding allBelow apart forms ascii asked signed suits anyOf eqList variableName paperVariable variableNames numbered userName twoCharacters paperWord mnemonics letter wordCharacter
 table-distinct = tt
 
 below-holds : (n : ℕ) (P : ℕ → Bool) (i : ℕ) → T (allBelow n P) → i < n → T (P i)

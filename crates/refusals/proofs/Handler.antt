@@ -9,11 +9,12 @@ use lib.ListN.{length, getD}
 use Rattle.numbers.specs.Bytes.{ascii}
 use Rattle.numbers.specs.Tests.{allOf, eqList}
 use Rattle.numbers.proofs.Truth.{both, same-test}
-use Rattle.program.specs.Names.{Name, letter, digit, wordCharacter, reserved, twoCharacters, userName}
+use Rattle.program.specs.Names.{Name, letter, digit, wordCharacter, paperWord, twoCharacters, userName}
 use Rattle.text.specs.Lines.{lines}
 use Rattle.text.specs.Tokens.{Token, tokens, uncommented}
 use Rattle.text.specs.Faults.{badForm}
-use Rattle.refusals.proofs.Rows.{lineAt, has, row-3}
+use Rattle.refusals.specs.Lines.{lineAt}
+use Rattle.refusals.proofs.Rows.{has, row-3}
 use Rattle.refusals.proofs.Mnemonics.{behindOE, rows-OE}
 use Rattle.refusals.proofs.Words.{no-letter}
 use Rattle.refusals.proofs.Slots.{suits, signed, first-suits, by-form, spelled, opening, Unsaid, no-form}
@@ -33,7 +34,7 @@ unfolding userName twoCharacters
 digits-no-user w d = same-test (userName w) false user (λ f. absurd f) where
   user : T (userName w) → ⊥
   user u =
-      let two = both (twoCharacters w) (not (reserved w)) u .0 in
+      let two = both (twoCharacters w) (not (paperWord w)) u .0 in
       let start = both (eqb (length w) 2) (letter (getD w 0 0) && wordCharacter (getD w 1 0)) two .1 in
       no-letter w (both (letter (getD w 0 0)) (wordCharacter (getD w 1 0)) start .0) (subst T (sym d) tt)
 

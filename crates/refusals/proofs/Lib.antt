@@ -8,3 +8,4 @@ pub mod Forms
 pub mod Handler
 pub mod Declaring
 pub mod Reserved
+pub mod Uses

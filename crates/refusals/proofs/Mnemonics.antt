@@ -5,7 +5,7 @@ use mathlib.Core.List.{List, [], _∷_}
 use lib.IntN.{pos}
 use Rattle.numbers.specs.Bytes.{ascii}
 use Rattle.numbers.specs.Tests.{eqList, numbered}
-use Rattle.program.specs.Names.{Name, letter, wordCharacter, mnemonics, variableNames, paperVariable, reserved, twoCharacters, userName}
+use Rattle.program.specs.Names.{Name, letter, wordCharacter, mnemonics, variableNames, paperVariable, paperWord, twoCharacters, userName}
 use Rattle.program.specs.Statements.{OE, Disarm}
 use Rattle.text.specs.Tokens.{Token}
 use Rattle.text.specs.Forms.{Label, Declared, Acts, variableName, Is, New, Target, Start, put, word, takes, fill, Form, form, forms, byForm, statement}
@@ -21,7 +21,7 @@ behindOE = form (Target ∷ []) (λ p. Acts (OE (p .name))) ∷ form (Is (ascii 
 
 -- All that the forms compute with.
 unfoldable table : Unit {0}
-unfolding statement byForm forms fill takes put word eqList ascii variableName paperVariable variableNames userName twoCharacters reserved mnemonics numbered letter wordCharacter
+unfolding statement byForm forms fill takes put word eqList ascii variableName paperVariable variableNames userName twoCharacters paperWord mnemonics numbered letter wordCharacter
 table = tt
 
 module _ (t : Token) (ts : List Token) where

@@ -13,12 +13,13 @@ use Rattle.numbers.specs.Bytes.{ascii}
 use Rattle.numbers.specs.Tests.{allOf, anyOf}
 use Rattle.numbers.proofs.Truth.{both, is-true}
 use Rattle.numbers.proofs.Tests.{Each}
-use Rattle.program.specs.Names.{Name, letter, wordCharacter, reserved, twoCharacters}
+use Rattle.program.specs.Names.{Name, letter, wordCharacter, twoCharacters, reserved}
 use Rattle.text.specs.Lines.{lines}
 use Rattle.text.specs.Tokens.{Token, tokens, uncommented, printable}
 use Rattle.text.specs.Forms.{Line, Blank, Parts, Form, forms, statement, reading}
 use Rattle.text.specs.Faults.{badForm, declares, reservedName}
-use Rattle.refusals.proofs.Rows.{lineAt, has, row-3, row-5}
+use Rattle.refusals.specs.Lines.{lineAt}
+use Rattle.refusals.proofs.Rows.{has, row-3, row-5}
 use Rattle.refusals.proofs.Slots.{suits, signed, Fits, first-suits, by-form, spelled, opening, Unsaid, no-form}
 use Rattle.refusals.proofs.Mnemonics.{behindLB, behindVA, rows-LB, rows-VA}
 use Rattle.refusals.proofs.Declaring.{Declares, said, Declaring, fits-named, declares-label, declares-plain, declares-started}

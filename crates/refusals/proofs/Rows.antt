@@ -11,11 +11,9 @@ use lib.ListN.{length, take, getD, List·getD-eq-default}
 use Rattle.text.specs.Lines.{lines}
 use Rattle.text.specs.Forms.{Line}
 use Rattle.text.specs.Faults.{longLine, badForm, bigLiteral, reservedName, heard, repeated, tooMany, undeclared, readOnlyWritten, faults, faultsFrom, said, textFaults, faultsOf}
+use Rattle.refusals.specs.Lines.{lineAt}
 
--- Line l of a text, from 1, and what the lines before it say.
-abbrev pub lineAt : List ℕ → ℕ → List ℕ
-lineAt text l = getD (lines text) (l - 1) []
-
+-- What the lines before line l say.
 abbrev pub saidBefore : List ℕ → ℕ → List Line
 saidBefore text l = take (l - 1) (said text)
 

@@ -21,7 +21,8 @@ use Rattle.text.specs.Forms.{Line, digits, variableName, Slot, Is, New, Target,
 use Rattle.text.specs.Faults.{badForm}
 use Rattle.text.proofs.Words.{variable-word}
 use Rattle.text.proofs.Signs.{operator-word, comparison-word}
-use Rattle.refusals.proofs.Rows.{lineAt, has, row-3}
+use Rattle.refusals.specs.Lines.{lineAt}
+use Rattle.refusals.proofs.Rows.{has, row-3}
 use Rattle.refusals.proofs.Slots.{figures, suits, asked, Took, one, two, Fits, done, step, by-form, no-form}
 
 -- Text 10: a word of three or more characters.

@@ -8,7 +8,7 @@ use lib.Dec.{eqb, leb, ltb}
 use lib.IntN.{ℤ}
 use lib.ListN.{length, getD}
 use Rattle.numbers.specs.Tests.{eqList, anyOf, lowest}
-use Rattle.program.specs.Names.{Name, reserved, paperVariable}
+use Rattle.program.specs.Names.{Name, paperVariable, reserved}
 use Rattle.program.specs.Variables.{inRange, literals, readOnly, mostCells, mostLabels, mostVariables}
 use Rattle.program.specs.Statements.{Value, Literal, Variable, Statement, operands, writes, targets}
 use Rattle.text.specs.Lines.{lines}
@@ -51,7 +51,7 @@ declares (Label w) = w ∷ []
 declares (Declared w z) = w ∷ []
 declares (Acts s) = []
 
--- Refusals 5, Text 12: a reserved name is declared.
+-- Refusals 5, Text 12, Q-10 3: a reserved name is declared.
 unfoldable pub reservedName : List ℕ → Bool
 reservedName l = elim (reading l) [ none ↦ false | some x ↦ anyOf reserved (declares x) ]
 

@@ -17,11 +17,11 @@ use Rattle.numbers.specs.Tests.{eqList, anyOf}
 use Rattle.numbers.proofs.Laws.{Bytes}
 use Rattle.numbers.proofs.Truth.{is-true, both}
 use Rattle.numbers.proofs.Tests.{eqList-refl}
-use Rattle.program.specs.Names.{Name, letter, wordCharacter, paperVariable, reserved, twoCharacters, userName}
+use Rattle.program.specs.Names.{Name, paperVariable, twoCharacters, freeName}
 use Rattle.program.specs.Code.{nameOf}
 use Rattle.program.specs.Cells.{noTarget}
 use Rattle.program.specs.declared.Cell.{Cell}
-use Rattle.program.proofs.Keys.{IsWord, name-key, user-word, single, double}
+use Rattle.program.proofs.Keys.{IsWord, name-key, two-long, free-two, free-word, single, double}
 use Rattle.text.specs.Lines.{lines}
 use Rattle.text.specs.Forms.{Line, Blank, Label, Declared, Acts}
 use Rattle.text.specs.Faults.{heard, said, declares, declaresIt, makesLabel, repeated, undeclared, faults, firstFault, placeOf, numberOf}
@@ -107,12 +107,9 @@ module _ (rows : List Row) (r : Reading) (p : Places) (b : List ℕ) {c : List �
     w ∙ rw (ne-eqb (r .kind) 3 x, ne-eqb (r .kind) 1 y, ne-eqb (r .kind) 2 z),
   )
 
--- A name of the user's has two characters, each a byte.
-two-length : (w : Name) → T (userName w) → length w ≡ 2
-unfolding userName twoCharacters
-two-length w t =
-    let a = both (twoCharacters w) (not (reserved w)) t .0 in
-    eqb→eq (length w) 2 (both (eqb (length w) 2) (letter (getD w 0 0) && wordCharacter (getD w 1 0)) a .0)
+-- A name that is declared has two characters, each a byte.
+two-length : (w : Name) → T (freeName w) → length w ≡ 2
+two-length w t = two-long w (free-two w t)
 
 word-bytes : {w : Name} → IsWord w → Bytes w
 word-bytes (single a) zero = a .1
@@ -121,7 +118,7 @@ word-bytes (double a b) zero = a .1
 word-bytes (double a b) (suc zero) = b .1
 word-bytes (double a b) (suc (suc k)) = omega arith
 
-two-named : (x : Line) → Fine x → TwoNamed x
+pub two-named : (x : Line) → Fine x → TwoNamed x
 two-named Blank f = tt
 two-named (Label w) f = two-length w f
 two-named (Declared w z) f = two-length w (f .0)
@@ -162,7 +159,7 @@ module _ (s : List ℕ) (before after : List Line) (l : List ℕ) (e : before ++
   unfolding labelOut labelPart saidBy
   label-said Blank q f = refl
   label-said (Label w) q f =
-      let i = user-word w f in
+      let i = free-word w f in
       rw (name-key w i, own-place w q) (label-bytes w (placeOf text w) (word-bytes i) (two-length w f))
   label-said (Declared w z) q f = refl
   label-said (Acts t) q f = refl
@@ -179,7 +176,7 @@ variable-said : (x : Line) → Fine x → variableOut (saidBy x) ≡ variablePar
 unfolding variableOut variablePart saidBy
 variable-said Blank f = refl
 variable-said (Label w) f = refl
-variable-said (Declared w z) f = variable-bytes w z (word-bytes (user-word w (f .0))) (two-length w (f .0))
+variable-said (Declared w z) f = variable-bytes w z (word-bytes (free-word w (f .0))) (two-length w (f .0))
 variable-said (Acts s) f = refl
 
 variable-part : (l : List ℕ) → variableOut (readingOf l) ≡ variablePart (heard l)

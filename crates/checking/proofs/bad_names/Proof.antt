@@ -12,7 +12,7 @@ use Rattle.checking.specs.Code.{keyOf, badKey}
 use Rattle.image.specs.Check.{badName}
 use Rattle.image.proofs.Any.{none-yet, one-more, that-is, all-without}
 use Rattle.cells.proofs.Marks.{unmarked, marked-more}
-use Rattle.checking.proofs.Keys.{not-users, key-inside, users}
+use Rattle.checking.proofs.Keys.{not-free, key-inside, free}
 use Rattle.image.proofs.Records.{fitting}
 use Rattle.checking.proofs.Keys.{bad-key}
 use Rattle.checking.proofs.bad_names.Statement.{statement}
@@ -36,7 +36,7 @@ loop-holds : tie.Need-loop-holds Inv-loop μ-loop
 loop-holds c = (omega arith, none-yet _, unmarked 23296 _)
 
 -- what a turn looks at
-looked : (c : tie.After-is-user-name Inv-loop μ-loop)
+looked : (c : tie.After-is-free-name Inv-loop μ-loop)
     → let l = c .before .before .before in
     let v = l .before in
     badKey (v .before .before .cell-count .result) (v .before .label-count .result) (v .before .before .before .before .args .s .now) (l .loop .k)
@@ -58,10 +58,10 @@ returns c =
     let l = u .before .before .before in
     let v = l .before in
     that-is _ (l .loop .k) (ap₂ (λ (l v : ℕ). l + v) (v .before .label-count .ensures) (v .variable-count .ensures)) (u .before .before .loop-test .taken)
-    (looked u) (not-users _ _ _ _ (u .before .key-at .ensures) (u .is-user-name .ensures) (c .if1 .taken))
+    (looked u) (not-free _ _ _ _ (u .before .key-at .ensures) (u .is-free-name .ensures) (c .if1 .taken))
 
 array-read-if2 : tie.Need-array-read-if2 Inv-loop μ-loop
-array-read-if2 c = let u = c .before in key-inside _ _ _ _ (u .before .key-at .ensures) (u .is-user-name .ensures) (c .if1 .left)
+array-read-if2 c = let u = c .before in key-inside _ _ _ _ (u .before .key-at .ensures) (u .is-free-name .ensures) (c .if1 .left)
 
 returns-2 : tie.Need-returns-2 Inv-loop μ-loop
 returns-2 c =
@@ -69,12 +69,12 @@ returns-2 c =
     let l = u .before .before .before in
     let v = l .before in
     that-is _ (l .loop .k) (ap₂ (λ (l v : ℕ). l + v) (v .before .label-count .ensures) (v .variable-count .ensures)) (u .before .before .loop-test .taken)
-    (looked u) (users _ _ _ _ (u .before .key-at .ensures) (u .is-user-name .ensures) (c .before .if1 .left) (l .loop .inv .2) (c .if2 .taken))
+    (looked u) (free _ _ _ _ (u .before .key-at .ensures) (u .is-free-name .ensures) (c .before .if1 .left) (l .loop .inv .2) (c .if2 .taken))
 
 array-write-seen : tie.Need-array-write-seen Inv-loop μ-loop
 array-write-seen c =
     let u = c .before .before in
-    key-inside _ _ _ _ (u .before .key-at .ensures) (u .is-user-name .ensures) (c .before .if1 .left)
+    key-inside _ _ _ _ (u .before .key-at .ensures) (u .is-free-name .ensures) (c .before .if1 .left)
 
 add-k : tie.Need-add-k Inv-loop μ-loop
 add-k c = omega (arith, few (c .before .before .before .before .before .before))
@@ -88,7 +88,7 @@ loop-again c =
     let l = u .before .before .before in (
       omega arith,
       one-more _ (l .loop .k) (l .loop .inv .1) (looked u)
-          (users _ _ _ _ (u .before .key-at .ensures) (u .is-user-name .ensures) (c .before .if1 .left) (l .loop .inv .2) (c .if2 .left)),
+          (free _ _ _ _ (u .before .key-at .ensures) (u .is-free-name .ensures) (c .before .if1 .left) (l .loop .inv .2) (c .if2 .left)),
       marked-more 23296 _ (l .loop .k) (l .loop .inv .2) (u .before .key-at .ensures),
     )
 
