@@ -6,8 +6,10 @@ pub mod Demands
 pub mod Unique
 pub mod Decided
 pub mod Relisted
+pub mod Reserving
 pub mod Impostors
 pub mod Listers
+pub mod Takers
 pub mod Promised
 pub mod States
 pub mod Later

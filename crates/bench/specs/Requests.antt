@@ -1,16 +1,24 @@
 -- Document 02: what a request asks of its calls, over any calls, as the demands of Demands.antt.
 -- Assumes nothing.
 use mathlib.Core.Path.{_≡_}
-use mathlib.Core.List.{List, _++_}
+use mathlib.Core.Bool.{true, false}
+use mathlib.Core.List.{List, [], _∷_, _++_}
 use mathlib.Core.Logic.{_↔_}
 use Prim.Native.Nat.{ℕ, _+_, _≤_, _<_}
-use lib.ListN.{length, take, drop}
+use lib.IntN.{ℤ}
+use lib.ListN.{length, take, drop, getD}
+use Rattle.numbers.specs.Bytes.{ascii}
 use Rattle.numbers.specs.Tests.{Lowest, NoRow}
-use Rattle.image.specs.Check.{imageFaults}
-use Rattle.printing.specs.Listing.{listing}
+use Rattle.program.specs.Names.{Name, twoCharacters, reserved, newlyReserved, freeName}
+use Rattle.program.specs.Variables.{inRange, literals}
+use Rattle.text.specs.Faults.{overlong, faultsOf}
+use Rattle.refusals.specs.Lines.{DeclaredAt, UsedAt}
+use Rattle.image.specs.Layout.{labelCount, variableCount}
+use Rattle.image.specs.Check.{imageFaults, recordName}
+use Rattle.printing.specs.Listing.{listing, plain}
 use Rattle.bench.specs.Translating.{answered}
 use Rattle.bench.specs.Listings.{listAnswered, listedAs, listedInto}
-use Rattle.bench.specs.Demands.{Bytes, Translate, given}
+use Rattle.bench.specs.Demands.{Bytes, Translate, Check, given}
 use Rattle.bench.specs.declared.Listed.{Listed}
 
 -- What listing gives: the answer, and the text buffer as the call leaves it. It is given an image and a buffer.
@@ -56,3 +64,37 @@ pub record Request1 (translate : Translate) (list : ListImage) : Type 0 where
 -- The bench's own call, as its promise (Calls.antt) gives it.
 abbrev pub ourList : ListImage
 ourList s buffer = record { answer = listedAs s (length buffer); text = listedInto s buffer }
+
+-- No row in front of row k of the faults holds for line l of a text, and none at all for a line before it.
+abbrev pub NoneBefore : List ℕ → ℕ → ℕ → Type 0
+NoneBefore text k l = ((j : ℕ) → j < k → getD (faultsOf text l) j false ≡ false) × ((j : ℕ) → j < l → NoRow (faultsOf text j))
+
+-- A text of one line.
+abbrev pub alone : List ℕ → List ℕ
+alone l = l ++ (10 ∷ [])
+
+-- Q-10, over a translator and a checker.
+pub record Request10 (translate : Translate) (check : Check) : Type 0 where
+  -- Q-10 3, Text 12, Refusals 20: 5 with line l exactly if that line declares a reserved name, has no lower fault, and no line before it has any.
+  pub five : (text buffer : List ℕ) (l : ℕ)
+      → ((translate text buffer .answer .number ≡ 5) × (translate text buffer .answer .line ≡ l))
+      ↔ ((overlong text ≡ false) × NoneBefore text 3 l × ((w : Name) × (reserved w ≡ true) × DeclaredAt text l w))
+  -- Q-10 3: `LB w` and `VA w=z` by themselves, for every name of two characters: 5 exactly for those of the drives.
+  pub five-label : (w : Name) (buffer : List ℕ) → twoCharacters w ≡ true
+      → (translate (alone (ascii "LB " ++ w)) buffer .answer .number ≡ 5) ↔ (reserved w ≡ true)
+  pub five-variable : (w : Name) (z : ℤ) (buffer : List ℕ) → twoCharacters w ≡ true → inRange literals z ≡ true
+      → (translate (alone (ascii "VA " ++ (w ++ (ascii "=" ++ plain z)))) buffer .answer .number ≡ 5) ↔ (reserved w ≡ true)
+  -- Q-10 3: what an accepted text declares is free.
+  pub free-text : (text buffer : List ℕ) → translate text buffer .answer .number ≡ 0 → (l : ℕ) (w : Name) → DeclaredAt text l w → freeName w ≡ true
+  -- Q-10 4: an image with a reserved name in a record, and without the faults 21 to 24, gets 25; the records of an accepted image have free names.
+  pub twenty-five : (s : List ℕ) (k : ℕ) → k < labelCount s + variableCount s → reserved (recordName s k) ≡ true
+      → ((j : ℕ) → j < 4 → getD (imageFaults s) j false ≡ false) → check s .number ≡ 25
+  pub free-image : (s : List ℕ) → check s .number ≡ 0 → (k : ℕ) → k < labelCount s + variableCount s → freeName (recordName s k) ≡ true
+  -- Q-10 5: 8 with line l if that line uses a word newly covered, has no lower fault, and no line before it has any, whatever else the text declares.
+  pub eight : (text buffer : List ℕ) (l : ℕ) (w : Name) → newlyReserved w ≡ true → UsedAt text l w → overlong text ≡ false → NoneBefore text 6 l
+      → (translate text buffer .answer .number ≡ 8) × (translate text buffer .answer .line ≡ l)
+  -- Q-10 5: `PR w`, `BR w` and `w=z` by themselves have the right form, so each such word gets 8 there and not 3.
+  pub eight-read : (w : Name) (buffer : List ℕ) → newlyReserved w ≡ true → translate (alone (ascii "PR " ++ w)) buffer .answer ≡ answered 8 1 0
+  pub eight-target : (w : Name) (buffer : List ℕ) → newlyReserved w ≡ true → translate (alone (ascii "BR " ++ w)) buffer .answer ≡ answered 8 1 0
+  pub eight-written : (w : Name) (z : ℤ) (buffer : List ℕ) → newlyReserved w ≡ true → inRange literals z ≡ true
+      → translate (alone (w ++ (ascii "=" ++ plain z))) buffer .answer ≡ answered 8 1 0
