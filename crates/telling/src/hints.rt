@@ -5,9 +5,10 @@ use crate::marks::NOTHING;
 use crate::runs;
 use program::Variable;
 use program::names::is_digit;
-use program::names::is_reserved;
+use program::names::is_paper_word;
 use program::names::is_user_name;
 use program::names::place_in;
+use program::reserved::is_reserved;
 use reading::Reading;
 
 // The refusals of a line that point at more than its beginning; those of a line by itself are known to its reading.
@@ -43,6 +44,15 @@ const IS_LABEL: u32 = 41;
 
 const READ_ONLY: u32 = 42;
 
+// The words on a name that no line may declare; it stands in front too. Where a line does, they say what it is; the last is for its other uses.
+const IS_MNEMONIC: u32 = 53;
+
+const IS_PAPER_VARIABLE: u32 = 54;
+
+const IS_DRIVE_WORD: u32 = 55;
+
+const NEVER_DECLARED: u32 = 56;
+
 // The longest runs of digits.
 const DIGITS: usize = 10;
 
@@ -55,7 +65,7 @@ const HIGHEST: u64 = Variable::HIGHEST_LITERAL as u64;
 
 // Whether a hint begins with the name that it is about.
 pub fn begins_with_name(number: u32) -> bool {
-    (IS_VARIABLE <= number) & (number <= READ_ONLY)
+    (IS_VARIABLE <= number) & (number <= READ_ONLY) | (IS_MNEMONIC <= number)
 }
 
 // What is wrong at a place of a line, and the name that it is about, or 0. No place is far behind the longest line.
@@ -86,7 +96,7 @@ fn of_run(run: &[u8], is_first: bool) -> u32 {
     if runs::WORD < run.len() {
         return LONG_WORD;
     }
-    let is_name = is_first | is_reserved(first as u16);
+    let is_name = is_first | is_paper_word(first as u16);
     number_if((run.len() == 1) & !is_name, ONE_LETTER)
 }
 
@@ -104,7 +114,21 @@ fn of_user(text: &[u8], run: &[u8], is_label: bool) -> u32 {
     if kind == rows::VARIABLE {
         return number_if(is_label, IS_VARIABLE);
     }
+    if is_reserved(key) {
+        return NEVER_DECLARED;
+    }
     UNDECLARED
+}
+
+// What a name is that no line may declare.
+fn of_reserved(name: &[u8]) -> u32 {
+    if runs::mnemonic(name) != NOTHING {
+        return IS_MNEMONIC;
+    }
+    if Variable::number_of(runs::key(name)) != 0 {
+        return IS_PAPER_VARIABLE;
+    }
+    IS_DRIVE_WORD
 }
 
 fn number_if(test: bool, number: u32) -> u32 {
@@ -239,6 +263,7 @@ fn place_of(text: &[u8], code: &[u8], refusal: u8) -> usize {
 // What is wrong at that place.
 fn number_of(text: &[u8], code: &[u8], place: usize, refusal: u8) -> u32 {
     match refusal {
+        Reading::RESERVED_NAME => of_reserved(runs::at(code, place)),
         UNKNOWN => of_user(text, runs::at(code, place), place == label_place(code)),
         STORED => READ_ONLY,
         _ => NOTHING,

@@ -82,11 +82,11 @@ const MOST_SOUGHT: u32 = 16;
 
 // The table stands in five pieces, since a long one is dear to prove: lines for the tool, numbers of answers, hints, wrong uses, and the text
 // on the tool's use, which is no part of the lines. What is sought most often stands first.
-const TOOL_SIZE: usize = 2071;
+const TOOL_SIZE: usize = 2128;
 
-const ANSWER_SIZE: usize = 1571;
+const ANSWER_SIZE: usize = 1578;
 
-const HINT_SIZE: usize = 2366;
+const HINT_SIZE: usize = 2568;
 
 const USE_SIZE: usize = 1247;
 
@@ -102,7 +102,7 @@ const FIRST_COMMAND: usize = HELP + 68;
 pub const SIZE: usize = HELP + HELP_SIZE;
 
 // The number of lines, and the bytes of the longest with its end.
-const LINE_COUNT: usize = 180;
+const LINE_COUNT: usize = 184;
 
 pub const LONGEST: usize = 76;
 
@@ -160,10 +160,10 @@ such 1: a text of 16,385 bytes
 such 2: a line of 65 characters, its comment among them
 such 3: MA 5,1
 such 4: R1=2147483648
-such 5: VA R1, as R1 is a variable of the language
+such 5: VA HI or LB SL, as HI and SL are words of the drives
 such 6: LB Q1 behind a line VA Q1
 such 7: VA Z2, and 32 lines before it declare a variable
-such 8: BR QQ, and no line says LB QQ
+such 8: BR QQ, and no line says LB QQ; or PR HI, as no line may declare HI
 such 9: MV=1
 such 10: a buffer of 5 bytes for an image of 116; the tool's is long enough
 such 11: a buffer of 5 bytes for a listing of 39; the tool's is long enough
@@ -171,7 +171,7 @@ such 21: a file of 15 bytes
 such 22: an image that another release made
 such 23: an image that was cut off, or put together with another file
 such 24: an image with a byte of a cell changed
-such 25: an image with a label renamed to a mnemonic
+such 25: an image with a label renamed to a word of the drives
 such 32: a file of 13 bytes
 such 33: 5 input 5 1, as there are four inputs
 such 34: punnet run feeder.image - 4097
@@ -188,7 +188,7 @@ const ANSWERS: [u8; ANSWER_SIZE] = *b"refusal 1: the text has more than 16,384 b
 refusal 2: the line has more than 64 bytes
 refusal 3: a byte or a form that no statement has
 refusal 4: a number outside -2,147,483,647 to 2,147,483,647
-refusal 5: the name is a mnemonic or a variable of the language
+refusal 5: the name is a word of the drives, which no line may declare
 refusal 6: the name is declared on a line before this one
 refusal 7: one cell, label or variable over the limit (256, 160, 32)
 refusal 8: no declaration of the name, or the first is of another kind
@@ -267,6 +267,10 @@ hint 49: this looks like a text
 hint 50: this looks like events or records
 hint 51: the file is empty
 hint 52: edition
+hint 53: is a mnemonic of the language
+hint 54: is a variable of the language
+hint 55: is a word of the drives; they would take it for their own
+hint 56: is a word of the drives; no line may declare it
 ";
 
 const USES: [u8; USE_SIZE] =
