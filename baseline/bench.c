@@ -13,6 +13,12 @@ enum { LITERAL = 1, VARIABLE = 2 };
 static const char variables[] = "R1R2R3R4P\0A\0D\0VIVMERO1O2O3MVEFI1I2I3I4IN";
 static const char mnemonics[] = "LBVAICDCBRCLRTE\0H\0OEMAMRSLPR";
 
+/* The words of the drives that have two characters, in the order of the alphabet. */
+static const u8 drive_words[] =
+    "ABAFAJALAOASATAVBDBEBLBMBPBRBYC1C2CBCECFCKCLCPCSCWD1D2D3D4D5DBDCDEDGDJDNDTEEEFELEMERESEXF1F2F3F4F5F6F7F8FCFDFLFMFSFT"
+    "HCHFHIHMHTI1I2I3I4I5I6I7I8I9ICIFINIPISITIVJELBLDLGLKLLLMLOLRLSLTMAMDMFMPMRMSMTMUMVNEO1O2O3OEOFOSOTPCPFPGPIPKPMPNPRPSPWPYQD"
+    "R1R2R3R4RARCRDRSRTSASCSFSISLSMSNSQSTSUTATCTDTETGTITMTPTQTRTSTTUGUVVAVCVFVIVMVRVTWT";
+
 struct operand { u8 shape; i32 number; };
 struct cell { u8 operation; u16 written; u8 selector; struct operand left, right; u16 target; };
 struct line { u8 fault, kind; u16 name; i32 start; struct cell cell; };
@@ -27,11 +33,25 @@ static u32 place_in(const char *table, u32 count, u16 key) {
 }
 
 static u32 paper_variable(u16 key) { return place_in(variables, 20, key); }
-static int reserved(u16 key) { return place_in(mnemonics, 14, key) || paper_variable(key); }
+static int paper_word(u16 key) { return place_in(mnemonics, 14, key) || paper_variable(key); }
 static int letter(u8 c) { return 'A' <= c && c <= 'Z'; }
 static int digit(u8 c) { return '0' <= c && c <= '9'; }
 static int two_characters(u16 key) { return letter(key % 256) && (letter(key / 256) || digit(key / 256)); }
-static int user_name(u16 key) { return two_characters(key) && !reserved(key); }
+static int user_name(u16 key) { return two_characters(key) && !paper_word(key); }
+
+/* Whether a name is a word of the drives: what is left of the table to look through is halved each time. */
+static int reserved(u16 key) {
+    u32 sought = key % 256 * 256 + key / 256, low = 0, high = (sizeof drive_words - 1) / 2;
+    while (low < high) {
+        u32 middle = (low + high) / 2, here = drive_words[2 * middle] * 256 + drive_words[2 * middle + 1];
+        if (here == sought) return 1;
+        if (here < sought) low = middle + 1;
+        else high = middle;
+    }
+    return 0;
+}
+
+static int free_name(u16 key) { return two_characters(key) && !reserved(key); }
 
 /* One line */
 
@@ -379,7 +399,7 @@ static u32 name_at(const struct parts *p, u32 k) {
 static int bad_names(const struct parts *p) {
     for (u32 k = 0; k < p->label_count + p->variable_count; k++) {
         u32 name = name_at(p, k);
-        if (!user_name(name)) return 1;
+        if (!free_name(name)) return 1;
         for (u32 j = 0; j < k; j++)
             if (name_at(p, j) == name) return 1;
     }

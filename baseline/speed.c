@@ -1,4 +1,4 @@
-/* Repeats one of the calls and prints a checksum: the same work, and the same line, as the program `speed`. */
+/* Repeats one of the calls and prints a checksum, or the number of a refusal: the same work, and the same line, as the program `speed`. */
 #include "bench.h"
 
 enum { TEXT = 16384, LISTING = 9472, TURNS = 4096, EVENT = 12, BLOCKS = 32, CELL_LINE = 37, NAME_LINE = 36 };
@@ -7,12 +7,12 @@ long write(int file, const void *bytes, unsigned long count);
 
 static u8 text[TEXT], image[5008], listing[LISTING], events[EVENT * TURNS], records[EVENT * TURNS];
 
-/* A line of this width: a statement with one name in it, and a comment. */
+/* A line of this width: a statement with one name in it, and a comment. From E on no second character makes a word of the drives. */
 static u8 *put_line(u8 *at, const char *before, char letter, u32 number, const char *after, u32 width) {
     u8 *last = at + width - 1;
     while (*before) *at++ = *before++;
     *at++ = letter;
-    *at++ = number < 26 ? 'A' + number : '0' + (number - 26);
+    *at++ = number < 22 ? 'E' + number : '0' + (number - 22);
     while (*after) *at++ = *after++;
     *at++ = ' ';
     *at++ = '\'';
@@ -24,15 +24,15 @@ static u8 *put_line(u8 *at, const char *before, char letter, u32 number, const c
 /* A statement of a block, one of eight: the fifth is one of four, by the block's number. */
 static u8 *put_statement(u8 *at, u32 b, u32 blocks, u32 which) {
     switch (which < 4 ? which : which == 4 ? 4 + b % 4 : which + 3) {
-    case 0: return put_line(at, "IC ", 'U', b, "", CELL_LINE);
-    case 1: return put_line(at, "R1=", 'U', b, "*3", CELL_LINE);
-    case 2: return put_line(at, "O1=", 'U', b, "&1", CELL_LINE);
+    case 0: return put_line(at, "IC ", 'X', b, "", CELL_LINE);
+    case 1: return put_line(at, "R1=", 'X', b, "*3", CELL_LINE);
+    case 2: return put_line(at, "O1=", 'X', b, "&1", CELL_LINE);
     case 3: return put_line(at, "BR ", 'Q', b, ",IN>=8", CELL_LINE);
-    case 4: return put_line(at, "", 'U', (b + 11) % blocks, "=R1&255", CELL_LINE);
-    case 5: return put_line(at, "MR ", 'U', b, "", CELL_LINE);
-    case 6: return put_line(at, "R2=", 'U', b, "/3", CELL_LINE);
-    case 7: return put_line(at, "R3=", 'U', b, "^5", CELL_LINE);
-    case 8: return put_line(at, "PR ", 'U', b, "", CELL_LINE);
+    case 4: return put_line(at, "", 'X', (b + 11) % blocks, "=R1&255", CELL_LINE);
+    case 5: return put_line(at, "MR ", 'X', b, "", CELL_LINE);
+    case 6: return put_line(at, "R2=", 'X', b, "/3", CELL_LINE);
+    case 7: return put_line(at, "R3=", 'X', b, "^5", CELL_LINE);
+    case 8: return put_line(at, "PR ", 'X', b, "", CELL_LINE);
     case 9: return put_line(at, "BR ", 'G', b, ",R1<30", CELL_LINE);
     }
     return put_line(at, "BR ", 'G', (b + 13) % blocks, "", CELL_LINE);
@@ -40,8 +40,8 @@ static u8 *put_statement(u8 *at, u32 b, u32 blocks, u32 which) {
 
 /* A declaration of a block, one of six. */
 static u8 *put_declaration(u8 *at, u32 b, u32 which) {
-    if (which == 0) return put_line(at, "VA ", 'U', b, "=7", NAME_LINE);
-    return put_line(at, "LB ", " GJKQW"[which], b, "", NAME_LINE);
+    if (which == 0) return put_line(at, "VA ", 'X', b, "=7", NAME_LINE);
+    return put_line(at, "LB ", " GYKQZ"[which], b, "", NAME_LINE);
 }
 
 /* The lines of a block in their order: the declarations by letter, the statements by digit. */
@@ -73,10 +73,15 @@ static void put_event(u8 *at, u32 k) {
 
 /* A program that calls eight deep and returns, again and again. */
 static const char calls[] =
-    "LB AA\nCL AB\nBR AA\nLB AB\nCL AC\nRT\nLB AC\nCL AD\nRT\nLB AD\nCL AE\nRT\nLB AE\nCL AF\nRT\n"
-    "LB AF\nCL AG\nRT\nLB AG\nCL AH\nRT\nLB AH\nCL AI\nRT\nLB AI\nRT\n";
+    "LB GA\nCL GB\nBR GA\nLB GB\nCL GC\nRT\nLB GC\nCL GD\nRT\nLB GD\nCL GE\nRT\nLB GE\nCL GF\nRT\n"
+    "LB GF\nCL GG\nRT\nLB GG\nCL GH\nRT\nLB GH\nCL GI\nRT\nLB GI\nRT\n";
 
-static u64 mixed(u64 sum, u64 x) { return (sum * 31 + x) % 4294967291u; }
+/* A sum is below the modulus; where a call is refused, its number stands above it. */
+#define MODULUS 4294967291u
+
+static u64 mixed(u64 sum, u64 x) { return (sum * 31 + x) % MODULUS; }
+
+static u64 refused(u8 number) { return (u64)MODULUS + number; }
 
 static u64 mixed_bytes(u64 sum, const u8 *bytes, u32 count) {
     for (u32 i = 0; i < count; i++) sum = mixed(sum, bytes[i]);
@@ -97,6 +102,7 @@ static u64 translate_times(u32 n, u32 size) {
     u64 sum = 1;
     while (n--) {
         struct translated t = translate(text, size, image, sizeof image);
+        if (t.number) return refused(t.number);
         sum = mixed(mixed(mixed(sum, t.number), t.line), t.length);
     }
     return mixed_bytes(sum, image, sizeof image);
@@ -104,7 +110,11 @@ static u64 translate_times(u32 n, u32 size) {
 
 static u64 check_times(u32 n) {
     u64 sum = 1;
-    while (n--) sum = mixed(sum, check(image, sizeof image));
+    while (n--) {
+        u8 number = check(image, sizeof image);
+        if (number) return refused(number);
+        sum = mixed(sum, number);
+    }
     return mixed_bytes(sum, image, sizeof image);
 }
 
@@ -112,6 +122,7 @@ static u64 list_times(u32 n) {
     u64 sum = 1;
     while (n--) {
         struct listed l = list(image, sizeof image, listing, sizeof listing);
+        if (l.number) return refused(l.number);
         sum = mixed(mixed(sum, l.number), l.length);
     }
     return mixed_bytes(sum, listing, sizeof listing);
@@ -121,6 +132,7 @@ static u64 run_times(u32 n, u32 length, u32 event_bytes) {
     u64 sum = 1;
     while (n--) {
         struct ran r = run(image, length, events, event_bytes, TURNS, records, sizeof records);
+        if (r.number) return refused(r.number);
         sum = mixed(mixed(mixed(mixed(mixed(sum, r.number), r.index), r.reason), r.turns), r.records);
         sum = mixed_state(sum, &r.state);
     }
@@ -130,6 +142,16 @@ static u64 run_times(u32 n, u32 length, u32 event_bytes) {
 static int same(const char *a, const char *b) {
     while (*a && *a == *b) a++, b++;
     return *a == *b;
+}
+
+/* The sum of so many calls on the image of a text, which is made once before. */
+static u64 on_image(const char *call, u32 n) {
+    int other = same(call, "calls");
+    struct translated t = translate(other ? (const u8 *)calls : text, other ? sizeof calls - 1 : TEXT, image, sizeof image);
+    if (t.number) return refused(t.number);
+    if (same(call, "check")) return check_times(n);
+    if (same(call, "list")) return list_times(n);
+    return run_times(n, t.length, other ? 0 : sizeof events);
 }
 
 int main(int count, char **words) {
@@ -147,14 +169,11 @@ int main(int count, char **words) {
     if (good && same(words[1], "translate")) sum = translate_times(n, put_late(BLOCKS));
     else if (good && same(words[1], "half")) sum = translate_times(n, put_late(BLOCKS / 2));
     else if (good && same(words[1], "quarter")) sum = translate_times(n, put_late(BLOCKS / 4));
-    else if (good && same(words[1], "check")) { translate(text, TEXT, image, sizeof image); sum = check_times(n); }
-    else if (good && same(words[1], "list")) { translate(text, TEXT, image, sizeof image); sum = list_times(n); }
-    else if (good && same(words[1], "run")) { translate(text, TEXT, image, sizeof image); sum = run_times(n, sizeof image, sizeof events); }
-    else if (good && same(words[1], "calls")) {
-        struct translated t = translate((const u8 *)calls, sizeof calls - 1, image, sizeof image);
-        sum = run_times(n, t.length, 0);
-    }
+    else if (good && (same(words[1], "check") || same(words[1], "list") || same(words[1], "run") || same(words[1], "calls")))
+        sum = on_image(words[1], n);
     else { write(2, usage, sizeof usage - 1); return 0; }
+    if (MODULUS <= sum) write(1, "refused ", 8);
+    sum %= MODULUS;
     line[--at] = '\n';
     do line[--at] = '0' + sum % 10; while (sum /= 10);
     write(1, line + at, sizeof line - at);

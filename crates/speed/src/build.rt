@@ -12,26 +12,26 @@ const BEFORE: usize = 292;
 
 const NINTH: usize = 37;
 
-const BLOCK: [u8; BLOCK_SIZE] = *b"VA U#=7 '..........................
+const BLOCK: [u8; BLOCK_SIZE] = *b"VA X#=7 '..........................
 LB G# '............................
-IC U# '.............................
-LB J# '............................
-R1=U#*3 '...........................
-O1=U#&1 '...........................
+IC X# '.............................
+LB Y# '............................
+R1=X#*3 '...........................
+O1=X#&1 '...........................
 LB K# '............................
 BR Q#,IN>=8 '.......................
  '..................................
 LB Q# '............................
-PR U# '.............................
-LB W# '............................
+PR X# '.............................
+LB Z# '............................
 BR G#,R1<30 '.......................
 BR G@ '.............................
 ";
 
-const NINTHS: [u8; NINTH * 4] = *b"U%=R1&255 '.........................
-MR U# '.............................
-R2=U#/3 '...........................
-R3=U#^5 '...........................
+const NINTHS: [u8; NINTH * 4] = *b"X%=R1&255 '.........................
+MR X# '.............................
+R2=X#/3 '...........................
+R3=X#^5 '...........................
 ";
 
 pub const TEXT_SIZE: usize = BLOCK_SIZE * BLOCKS;
@@ -52,31 +52,31 @@ const ALL_DECLARATIONS: usize = 216;
 // A program that calls eight deep and returns, again and again.
 pub const CALLS_SIZE: usize = 132;
 
-pub const CALLS: [u8; CALLS_SIZE] = *b"LB AA
-CL AB
-BR AA
-LB AB
-CL AC
+pub const CALLS: [u8; CALLS_SIZE] = *b"LB GA
+CL GB
+BR GA
+LB GB
+CL GC
 RT
-LB AC
-CL AD
+LB GC
+CL GD
 RT
-LB AD
-CL AE
+LB GD
+CL GE
 RT
-LB AE
-CL AF
+LB GE
+CL GF
 RT
-LB AF
-CL AG
+LB GF
+CL GG
 RT
-LB AG
-CL AH
+LB GG
+CL GH
 RT
-LB AH
-CL AI
+LB GH
+CL GI
 RT
-LB AI
+LB GI
 RT
 ";
 
@@ -87,10 +87,10 @@ pub const EVENTS_SIZE: usize = events::script::SIZE * TURNS;
 
 pub type Events = [u8; EVENTS_SIZE];
 
-// The second character of a block's names.
+// The second character of a block's names. From E on none of them is a word of the drives, as QD would be.
 fn character(block: usize) -> u8 {
     let n = (block % BLOCKS) as u8;
-    if n < 26 { b'A' + n } else { b'0' + (n - 26) }
+    if n < 22 { b'E' + n } else { b'0' + (n - 22) }
 }
 
 // A byte of one of so many blocks, with the character that it stands for.

@@ -1,6 +1,7 @@
 // Repeats one of the bench's four calls, and writes a checksum of the answers and of the buffer that the call fills or reads. The arguments are
 // what is repeated, and how many times: `translate` takes the largest program with its names declared behind all statements, `half` and
-// `quarter` so much of it; `check`, `list` and `run` take the largest program, and `calls` runs one that calls and returns.
+// `quarter` so much of it; `check`, `list` and `run` take the largest program, and `calls` runs one that calls and returns. A call that is refused
+// is the last, and its number is written in place of the sum.
 mod build;
 mod sums;
 
@@ -64,7 +65,11 @@ fn task(word: &[u8]) -> u8 {
 fn translate(times: u64, text: &[u8], image: &mut [u8]) -> u64 {
     let mut sum = FIRST_SUM;
     for _ in 0..times {
-        sum = sums::translated(sum, bench::translate(text, image));
+        let answer = bench::translate(text, image);
+        if answer.number != 0 {
+            return sums::refused(answer.number);
+        }
+        sum = sums::translated(sum, answer);
     }
     sums::bytes(sum, image)
 }
@@ -72,7 +77,11 @@ fn translate(times: u64, text: &[u8], image: &mut [u8]) -> u64 {
 fn check(times: u64, image: &[u8]) -> u64 {
     let mut sum = FIRST_SUM;
     for _ in 0..times {
-        sum = sums::checked(sum, bench::check(image));
+        let answer = bench::check(image);
+        if answer.number != 0 {
+            return sums::refused(answer.number);
+        }
+        sum = sums::checked(sum, answer);
     }
     sums::bytes(sum, image)
 }
@@ -80,7 +89,11 @@ fn check(times: u64, image: &[u8]) -> u64 {
 fn list(times: u64, image: &[u8], text: &mut [u8]) -> u64 {
     let mut sum = FIRST_SUM;
     for _ in 0..times {
-        sum = sums::listed(sum, bench::list(image, text));
+        let answer = bench::list(image, text);
+        if answer.number != 0 {
+            return sums::refused(answer.number);
+        }
+        sum = sums::listed(sum, answer);
     }
     sums::bytes(sum, text)
 }
@@ -93,7 +106,11 @@ fn lists(times: u64, image: &[u8]) -> u64 {
 fn run(times: u64, image: &[u8], events: &[u8], records: &mut [u8]) -> u64 {
     let mut sum = FIRST_SUM;
     for _ in 0..times {
-        sum = sums::ran(sum, bench::run(image, events, build::TURNS as u64, records));
+        let answer = bench::run(image, events, build::TURNS as u64, records);
+        if answer.number != 0 {
+            return sums::refused(answer.number);
+        }
+        sum = sums::ran(sum, answer);
     }
     sums::bytes(sum, records)
 }
@@ -107,6 +124,9 @@ fn runs(times: u64, image: &[u8], events: &[u8]) -> u64 {
 fn on_image(task: u8, times: u64, text: &[u8], events: &[u8]) -> u64 {
     let mut room = [0u8; LONGEST_IMAGE];
     let translated = bench::translate(text, &mut room);
+    if translated.number != 0 {
+        return sums::refused(translated.number);
+    }
     let image = parts::front(&room, translated.length);
     if task == CHECK {
         return check(times, image);
@@ -167,7 +187,11 @@ fn start(task: u8, times: scripts::Number) {
         tell_usage();
         return;
     }
-    io::print_decimal(STDOUT_FILENO, repeat(task, times.size));
+    let sum = repeat(task, times.size);
+    if sums::MODULUS <= sum {
+        io::write_all(STDOUT_FILENO, b"refused ");
+    }
+    io::print_decimal(STDOUT_FILENO, sum % sums::MODULUS);
     io::write_all(STDOUT_FILENO, b"\n");
 }
 

@@ -5,7 +5,8 @@ use bench::Ran;
 use bench::State;
 use bench::Translated;
 
-const MODULUS: u64 = 4294967291;
+// Every sum is below this.
+pub const MODULUS: u64 = 4294967291;
 
 const FACTOR: u64 = 31;
 
@@ -29,6 +30,11 @@ fn place(sum: u64, n: u16) -> u64 {
 
 fn byte(sum: u64, b: u8) -> u64 {
     mixed(sum, b as u64)
+}
+
+// What stands for a sum where a call is refused with a number.
+pub fn refused(number: u8) -> u64 {
+    MODULUS + (number as u64)
 }
 
 pub fn bytes(start: u64, values: &[u8]) -> u64 {
