@@ -1,14 +1,14 @@
 -- Q-10 follows from demand 1: calls that meet it do what the request asks, the bench's own among them.
 -- Assumes nothing.
 use mathlib.Core.Path.{_≡_, refl, sym, subst, ap, _∙_}
-use mathlib.Core.Bool.{Bool, true, false, _&&_, _||_, not, false≢true, or-false, and-false}
+use mathlib.Core.Bool.{true, false, _||_, not, false≢true, or-false, and-false}
 use mathlib.Core.List.{List, [], _∷_, _++_, append-nil}
-use mathlib.Core.Logic.{_↔_, ⊎-elim}
-use mathlib.Core.Option.{Option, some, Option·some-injective}
+use mathlib.Core.Logic.{_↔_}
+use mathlib.Core.Option.{some, Option·some-injective}
 use Prim.Native.Nat.{ℕ, zero, suc, _+_, _≤_, _<_}
 use native.Mathlib.Omega.{arith}
 use borrow.Author.Tests.{le-ltb, not-false}
-use lib.Dec.{T, eqb, ltb}
+use lib.Dec.{T, eqb}
 use lib.IntN.{ℤ}
 use lib.ListN.{length, getD, length-append}
 use Rattle.numbers.specs.Bytes.{ascii}
@@ -25,7 +25,7 @@ use Rattle.text.specs.Faults.{overlong, longLine, badForm, bigLiteral, reserved
 use Rattle.text.proofs.Filled.{Sound}
 use Rattle.reading.proofs.Heard.{SoundAt, reading-sound}
 use Rattle.refusals.specs.Lines.{lineAt, Says, DeclaredAt, isName, uses, UsedAt}
-use Rattle.refusals.proofs.Rows.{has, row-2, row-3, row-4, row-5, row-6, row-7}
+use Rattle.refusals.proofs.Rows.{row-2, row-3, row-4, row-5, row-6, row-7}
 use Rattle.refusals.proofs.Uses.{reserved-declared, used-undeclared}
 use Rattle.image.specs.Layout.{labelCount, variableCount}
 use Rattle.image.specs.Check.{recordName, badName, badTarget, badStart, badRecords, imageFaults}

@@ -15,7 +15,7 @@ use Rattle.numbers.specs.Tests.{allOf, eqList, numbered}
 use Rattle.program.specs.Names.{Name, letter, digit, wordCharacter, variableNames, paperVariable, twoCharacters, userName}
 use Rattle.program.specs.Variables.{inRange, literals}
 use Rattle.program.specs.Statements.{Value, Literal, Variable}
-use Rattle.numbers.proofs.Truth.{not-same, both, both-of, either, is-true, is-false, is-no, left-of}
+use Rattle.numbers.proofs.Truth.{not-same, both, both-of, either, is-true, is-no, left-of}
 use Rattle.numbers.proofs.Tests.{eqList-eq, all-then, numbered-all}
 use Rattle.program.proofs.Keys.{user-two}
 use Rattle.text.specs.Tokens.{Token, tokens}

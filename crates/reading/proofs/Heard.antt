@@ -32,6 +32,7 @@ use Rattle.text.specs.Forms.{Line, Blank, Label, Declared, Acts, Parts, noParts
 use Rattle.text.specs.Faults.{longLine, badForm, bigLiteral, reservedName, bigIn, bigValue, tooBig, declares, declaresIt, makesCell, makesLabel, makesVariable, heard, faults, repeated, tooMany, undeclared, readOnlyWritten, howMany, firstMakes, unknownVariable, unknownValue, unknownIn}
 use Rattle.reading.specs.Code.{saidBy, readingOf, aimsAt, inOperand, placed, written, operandWith, resolved}
 use Rattle.text.proofs.Words.{variable-word}
+use Rattle.text.proofs.Heard.{heard-by}
 use Rattle.text.proofs.Filled.{HoldsAt, Filled, filled, Known, Named, Sound}
 use Rattle.reading.proofs.Rows.{Rows, last, next, rows}
 
@@ -81,24 +82,7 @@ fine (Declared w z) s b r = (own-name w s r, b)
 fine (Acts s) n b r = (n, b)
 
 pub heard-fine : (l : List ℕ) → Fine (heard l)
-unfolding heard badForm bigLiteral reservedName
-heard-fine l = pick (reading l) (reading-sound l) (longLine l)
-  where
-    some-fine : (x : Line) → Sound x → (long big kept : Bool) → bigIn x ≡ big → anyOf reserved (declares x) ≡ kept → Fine (cond (long || (false || (big || kept))) Blank x)
-    some-fine x s true big kept b r = tt
-    some-fine x s false true kept b r = tt
-    some-fine x s false false true b r = tt
-    some-fine x s false false false b r = fine x s b r
-
-    none-fine : (long : Bool) → Fine (cond (long || true) Blank Blank)
-    none-fine true = tt
-    none-fine false = tt
-
-    pick : (o : Option Line) → SoundAt o → (long : Bool)
-        → Fine (cond (long || ((elim o [ none ↦ true | some x ↦ false ]) || ((elim o [ none ↦ false | some x ↦ bigIn x ]) || (elim o [ none ↦ false | some x ↦ anyOf reserved (declares x) ]))))
-        Blank (elim o [ none ↦ Blank | some x ↦ x ]))
-    pick none h long = none-fine long
-    pick (some x) h long = some-fine x h long (bigIn x) (anyOf reserved (declares x)) refl refl
+heard-fine l = heard-by Fine l tt (λ x e b r. fine x (subst SoundAt e (reading-sound l)) b r)
 
 -- The reading of a line, by what is heard.
 module _ (l : List ℕ) where

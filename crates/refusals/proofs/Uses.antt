@@ -1,14 +1,13 @@
 -- Document 02, Q-10: fault 5 is for a line that declares a reserved name; no other line declares one, so a line that uses one has fault 8.
 -- Assumes nothing.
 use mathlib.Core.Path.{_≡_, refl, sym, subst, ap, _∙_}
-use mathlib.Core.Bool.{Bool, true, false, cond, _&&_, _||_, not, false≢true, or-true, or-false}
+use mathlib.Core.Bool.{Bool, true, false, _||_, not, false≢true, or-false}
 use mathlib.Core.List.{List, [], _∷_, map}
 use mathlib.Core.Logic.{_↔_, ⊎-elim}
 use mathlib.Core.Option.{Option, none, some}
 use Prim.Native.Nat.{ℕ, _-_, _≤_, _<_}
-use native.Mathlib.Omega.{arith}
 use lib.Dec.{T, eqb}
-use lib.ListN.{length, getD}
+use lib.ListN.{length}
 use borrow.Author.Tests.{not-false}
 use Rattle.numbers.specs.Tests.{anyOf, eqList, numbered}
 use Rattle.numbers.proofs.Truth.{is-true, is-false, is-no, true-is, both, either, neither, left-of, right-of}
@@ -17,8 +16,9 @@ use Rattle.program.specs.Names.{Name, mnemonics, paperVariable, paperWord, rese
 use Rattle.program.specs.Statements.{Value, Literal, Variable, Statement, operands, writes, targets}
 use Rattle.text.specs.Lines.{lines}
 use Rattle.text.specs.Forms.{Line, Blank, Label, Declared, Acts, reading}
-use Rattle.text.specs.Faults.{longLine, badForm, bigLiteral, reservedName, bigIn, declares, declaresIt, heard, firstMakes, makesLabel, makesVariable, unknownVariable, unknownValue, unknownIn, undeclared, said, faultsOf}
-use Rattle.refusals.specs.Lines.{lineAt, Says, DeclaredAt, isName, uses, UsedAt}
+use Rattle.text.specs.Faults.{reservedName, declares, declaresIt, heard, firstMakes, makesLabel, makesVariable, unknownVariable, unknownValue, unknownIn, undeclared, said}
+use Rattle.text.proofs.Heard.{heard-by}
+use Rattle.refusals.specs.Lines.{lineAt, DeclaredAt, isName, uses, UsedAt}
 use Rattle.refusals.proofs.Rows.{has, row-2, row-3, row-4, row-5, row-8, fault-range}
 
 -- ---- Q-10 3: which lines have fault 5
@@ -65,28 +65,11 @@ module _ (text : List ℕ) (l : ℕ) where
 -- ---- Q-10 5: a reserved name has no declaration
 
 -- What is heard declares no reserved name.
-blank : (w : Name) → declaresIt w Blank ≡ false
-unfolding declaresIt declares anyOf
-blank w = refl
-
 heard-other : (w : Name) (l : List ℕ) → reserved w ≡ true → declaresIt w (heard l) ≡ false
-unfolding heard badForm bigLiteral reservedName
-heard-other w l r = pick (reading l) (longLine l) where
-  says : (x : Line) (long big kept : Bool) → anyOf reserved (declares x) ≡ kept → declaresIt w (cond (long || (false || (big || kept))) Blank x) ≡ false
-  says x true big kept e = blank w
-  says x false true kept e = blank w
-  says x false false true e = blank w
-  says x false false false e = is-no (declaresIt w x) (λ d. false≢true (sym e ∙ declared-reserved x w r (is-true (declaresIt w x) d)))
-
-  silent : (long : Bool) → declaresIt w (cond (long || true) Blank Blank) ≡ false
-  silent true = blank w
-  silent false = blank w
-
-  pick : (o : Option Line) (long : Bool)
-      → declaresIt w (cond (long || ((elim o [ none ↦ true | some x ↦ false ]) || ((elim o [ none ↦ false | some x ↦ bigIn x ]) || (elim o [ none ↦ false | some x ↦ anyOf reserved (declares x) ]))))
-      Blank (elim o [ none ↦ Blank | some x ↦ x ])) ≡ false
-  pick none long = silent long
-  pick (some x) long = says x long (bigIn x) (anyOf reserved (declares x)) refl
+unfolding declaresIt declares anyOf
+heard-other w l r =
+    heard-by (λ x. declaresIt w x ≡ false) l refl
+    (λ x e b k. is-no (declaresIt w x) (λ d. false≢true (sym k ∙ declared-reserved x w r (is-true (declaresIt w x) d))))
 
 module _ (w : Name) (r : reserved w ≡ true) (make : Line → Bool) where
   first-none : (ls : List (List ℕ)) → firstMakes make w (map heard ls) ≡ false

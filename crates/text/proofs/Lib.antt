@@ -5,3 +5,4 @@ pub mod Words
 pub mod Signs
 pub mod Filled
 pub mod Faults
+pub mod Heard

@@ -7,17 +7,17 @@ use Prim.Native.Nat.{ℕ, zero, suc, _+_, _*_, _-_, _≤_}
 use native.Mathlib.Nat.{add-zero}
 use native.Mathlib.Omega.{arith}
 use borrow.Author.Tests.{eq-eqb, ne-eqb}
-use lib.Dec.{T, eqb, eqb→eq}
+use lib.Dec.{T, eqb}
 use lib.IntN.{ℤ}
-use lib.ListN.{length, take, drop, getD}
+use lib.ListN.{length, take, drop}
 use lib.Seq.{sets, length-sets}
 use Rattle.numbers.specs.Bytes.{bytes}
 use Rattle.numbers.specs.Bits.{digits32}
 use Rattle.numbers.specs.Tests.{eqList, anyOf}
 use Rattle.numbers.proofs.Laws.{Bytes}
-use Rattle.numbers.proofs.Truth.{is-true, both}
+use Rattle.numbers.proofs.Truth.{is-true}
 use Rattle.numbers.proofs.Tests.{eqList-refl}
-use Rattle.program.specs.Names.{Name, paperVariable, twoCharacters, freeName}
+use Rattle.program.specs.Names.{Name, paperVariable, freeName}
 use Rattle.program.specs.Code.{nameOf}
 use Rattle.program.specs.Cells.{noTarget}
 use Rattle.program.specs.declared.Cell.{Cell}

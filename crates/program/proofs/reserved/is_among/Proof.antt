@@ -1,7 +1,7 @@
 -- `is_among` meets its contract. The loop's invariant: names before `low` are lower than the one sought, those from `high` on are higher.
 -- Assumes nothing.
-use mathlib.Core.Path.{_≡_, sym, _∙_}
-use Prim.Native.Nat.{ℕ, _+_, _-_, _/_, _≤_, _<_}
+use mathlib.Core.Path.{_≡_}
+use Prim.Native.Nat.{ℕ, _-_, _≤_, _<_}
 use native.Mathlib.Omega.{arith}
 use Rattle.numbers.proofs.Truth.{if-below}
 use Rattle.program.specs.Code.{rank}

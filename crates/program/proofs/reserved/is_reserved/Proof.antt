@@ -1,6 +1,5 @@
 -- `is_reserved` meets its contract: the table holds the words of the drives, and they rise.
 -- Assumes nothing.
-use mathlib.Core.List.{map}
 use borrow.Author.Needs.{needs}
 use Rattle.numbers.specs.Bytes.{ascii, field, number}
 use Rattle.numbers.specs.Tests.{allBelow}

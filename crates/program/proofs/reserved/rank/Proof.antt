@@ -1,7 +1,6 @@
 -- `rank` meets its contract.
 -- Assumes nothing.
 use mathlib.Core.Path.{refl}
-use native.Mathlib.Omega.{arith}
 use borrow.Author.Needs.{needs}
 use Rattle.program.specs.Code.{rank}
 use Rattle.program.proofs.reserved.rank.Statement.{statement}
