@@ -47,9 +47,9 @@ bad-cells-spec =
     (tie.spec
     Inv-loop
     μ-loop
-    (search needs)
-    (search needs)
-    (search needs)
+    (λ c κs. tt)
+    (λ c κs. tt)
+    (λ c κs. tt)
     loop-holds
     (λ c κs. search needs)
     returns

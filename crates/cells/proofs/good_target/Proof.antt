@@ -1,6 +1,6 @@
 -- `good_target` meets its contract: by `OE 0`, and by whether the target is in the table.
 -- Assumes nothing.
-use borrow.Author.Needs.{needs}
+use native.Mathlib.Omega.{arith}
 use Rattle.program.specs.Cells.{noTarget}
 use Rattle.image.specs.Code.{labelled}
 use Rattle.image.specs.Check.{goodTarget}
@@ -22,4 +22,4 @@ returns-3 c = rw (c .before .before .if1 .left, c .is-label-target .ensures)
 pub good-target-spec : {M : Type 1} → statement M
 good-target-spec =
     tie.close
-    (tie.spec returns (search needs) returns-2 (search needs) returns-3)
+    (tie.spec returns (λ c. omega arith) returns-2 (λ c κs. tt) returns-3)

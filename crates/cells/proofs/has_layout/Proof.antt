@@ -3,7 +3,6 @@
 use mathlib.Core.Path.{_≡_, refl, _∙_}
 use Prim.Native.Nat.{_≤_, _-_}
 use native.Mathlib.Omega.{arith}
-use borrow.Author.Needs.{needs}
 use lib.ListN.{drop}
 use Rattle.numbers.specs.Tests.{anyOf}
 use Rattle.cells.specs.Code.{fitsOf}
@@ -50,8 +49,8 @@ has-layout-spec =
     Inv-loop
     μ-loop
     loop-holds
-    (search needs)
-    (search needs)
+    (λ c κs. omega arith)
+    (λ c κs. tt)
     returns
     add-i
     loop-less

@@ -5,7 +5,6 @@ use mathlib.Core.Path.{_≡_}
 use Prim.Native.Nat.{_≤_, _-_}
 use native.Mathlib.Omega.{arith}
 use borrow.Author.Tests.{eq-eqb, ne-eqb}
-use borrow.Author.Needs.{needs}
 use lib.Dec.{eqb}
 use Rattle.numbers.specs.Tests.{anyBelow}
 use Rattle.image.specs.Code.{labelled, targetOf}
@@ -52,10 +51,10 @@ is-label-target-spec =
     (tie.spec
     Inv-loop
     μ-loop
-    (search needs)
-    (search needs)
+    (λ c κs. tt)
+    (λ c κs. tt)
     loop-holds
-    (search needs)
+    (λ c κs. tt)
     returns
     add-k
     loop-less

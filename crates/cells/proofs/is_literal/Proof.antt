@@ -1,7 +1,6 @@
 -- `is_literal` meets its contract: the range of a literal, in 64 bits.
 -- Assumes nothing.
 use mathlib.Core.Path.{_∙_}
-use borrow.Author.Needs.{needs}
 use Rattle.numbers.proofs.Kit.{fit32, wide, back64}
 use Rattle.program.specs.Variables.{literals}
 use Rattle.cells.specs.Code.{literalBits}
@@ -17,4 +16,4 @@ returns c = simp (back64 (fit32 (c .before .signed .result) (c .before .signed .
 
 pub is-literal-spec : {M : Type 1} → statement M
 is-literal-spec =
-    tie.close (tie.spec (search needs) (search needs) cast-holds (search needs) returns)
+    tie.close (tie.spec (λ c κs. tt) (λ c κs. tt) cast-holds (λ c κs. tt) returns)

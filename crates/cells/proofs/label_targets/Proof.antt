@@ -3,7 +3,6 @@
 use mathlib.Core.Path.{_≡_, sym}
 use Prim.Native.Nat.{_≤_, _-_}
 use native.Mathlib.Omega.{arith}
-use borrow.Author.Needs.{needs}
 use Rattle.image.specs.Layout.{labelCount, labelTarget, labelPlace}
 use Rattle.image.specs.Code.{targetOf}
 use Rattle.cells.specs.Code.{Marked}
@@ -54,13 +53,13 @@ label-targets-spec =
     (tie.spec
     Inv-loop
     μ-loop
-    (search needs)
-    (search needs)
+    (λ c κs. tt)
+    (λ c κs. tt)
     loop-holds
     slice-aggregate-mark
-    (search needs)
-    (search needs)
-    (search needs)
+    (λ c κs. tt)
+    (λ c. omega arith)
+    (λ c κs. tt)
     add-k
     loop-less
     loop-again

@@ -1,6 +1,6 @@
 -- `row` meets its contract: the code's table is that of the layouts, as numbers.
 -- Assumes nothing.
-use borrow.Author.Needs.{needs}
+use native.Mathlib.Omega.{arith}
 use Rattle.image.specs.Check.{layouts}
 use Rattle.cells.specs.Code.{useOf}
 use Rattle.cells.proofs.Layouts.{row-split}
@@ -12,4 +12,4 @@ unfolding layouts useOf
 returns c = row-split (c .args .i) (c .pre)
 
 pub row-spec : {M : Type 1} → statement M
-row-spec = tie.close (tie.spec (search needs) (search needs) (search needs) (search needs) returns)
+row-spec = tie.close (tie.spec (λ c. omega arith) (λ c. omega arith) (λ c. omega arith) (λ c. omega arith) returns)

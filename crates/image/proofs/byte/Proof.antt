@@ -1,7 +1,7 @@
 -- `byte` meets its contract: a field of one byte is that byte, and past the end stands 0.
 -- Assumes nothing.
 use mathlib.Core.Path.{sym, _∙_}
-use borrow.Author.Needs.{needs}
+use native.Mathlib.Omega.{arith}
 use lib.ListN.{List·getD-eq-default}
 use Rattle.image.proofs.Laws.{field-one}
 use Rattle.image.proofs.byte.Statement.{statement}
@@ -14,4 +14,4 @@ returns-2 : tie.Need-returns-2
 returns-2 c = sym (field-one _ _)
 
 pub byte-spec : {M : Type 1} → statement M
-byte-spec = tie.close (tie.spec returns (search needs) returns-2)
+byte-spec = tie.close (tie.spec returns (λ c. omega arith) returns-2)

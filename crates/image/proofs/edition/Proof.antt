@@ -1,7 +1,6 @@
 -- `edition` meets its contract: a field of the trailer.
 -- Assumes nothing.
 use native.Mathlib.Omega.{arith}
-use borrow.Author.Needs.{needs}
 use Rattle.image.specs.Layout.{edition}
 use Rattle.image.proofs.Laws.{trailer-room}
 use Rattle.image.proofs.edition.Statement.{statement}
@@ -15,4 +14,4 @@ unfolding edition
 returns c = rw (← c .before .trailer-place .ensures) (c .read2 .ensures)
 
 pub edition-spec : {M : Type 1} → statement M
-edition-spec = tie.close (tie.spec (search needs) add-read2 (search needs) returns)
+edition-spec = tie.close (tie.spec (λ c κs. tt) add-read2 (λ c κs. tt) returns)

@@ -1,7 +1,7 @@
 -- `start_value` meets its contract: a field of the record at its place.
 -- Assumes nothing.
 use mathlib.Core.Path.{ap, _∙_}
-use borrow.Author.Needs.{needs}
+use native.Mathlib.Omega.{arith}
 use Rattle.numbers.specs.Bits.{signed32}
 use Rattle.numbers.proofs.Kit.{fit32, back32}
 use Rattle.image.specs.Layout.{startValue, variablePlace}
@@ -16,10 +16,10 @@ pub start-value-spec : {M : Type 1} → statement M
 start-value-spec =
     tie.close
     (tie.spec
-    (search needs)
-    (search needs)
-    (search needs)
-    (search needs)
-    (search needs)
-    (search needs)
+    (λ c κs. tt)
+    (λ c κs. tt)
+    (λ c κs. tt)
+    (λ c. omega arith)
+    (λ c κs. tt)
+    (λ c κs. tt)
     returns)

@@ -1,8 +1,8 @@
 -- `same` is safe and ends: each turn leaves fewer bytes.
 -- Assumes nothing.
 use Prim.Native.Nat.{_-_}
+use native.Mathlib.Omega.{arith}
 use lib.ListN.{length}
-use borrow.Author.Needs.{needs}
 use Rattle.parts.proofs.same.Statement.{statement}
 use Rattle.parts.proofs.same.Tie as tie
 
@@ -15,5 +15,5 @@ abbrev μ-loop : tie.MeasureT-loop
 pub same-spec : {M : Type 1} → statement M
 same-spec =
     tie.close
-    (tie.spec Inv-loop μ-loop (search needs) (search needs) (search needs) (search needs) (search needs) (search needs) (search needs)
-    (search needs) (search needs) (search needs))
+    (tie.spec Inv-loop μ-loop (λ c. tt) (λ c. tt) (λ c. tt) (λ c. omega arith) (λ c. omega arith) (λ c. tt) (λ c. omega arith)
+    (λ c. omega arith) (λ c. tt) (λ c. tt))

@@ -1,7 +1,7 @@
 -- `word_place` is safe and ends.
 -- Assumes nothing.
 use Prim.Native.Nat.{_-_}
-use borrow.Author.Needs.{needs}
+use native.Mathlib.Omega.{arith}
 use Rattle.parts.proofs.word_place.Statement.{statement}
 use Rattle.parts.proofs.word_place.Tie as tie
 
@@ -14,5 +14,5 @@ abbrev μ-loop : tie.MeasureT-loop
 pub word-place-spec : {M : Type 1} → statement M
 word-place-spec =
     tie.close
-    (tie.spec Inv-loop μ-loop (search needs) (search needs) (search needs) (search needs) (search needs) (search needs) (search needs)
-    (search needs))
+    (tie.spec Inv-loop μ-loop (λ c κs. tt) (λ c. tt) (λ c κs. tt) (λ c κs. tt) (λ c. omega arith) (λ c. omega arith) (λ c. tt)
+    (λ c. tt))

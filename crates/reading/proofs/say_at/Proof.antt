@@ -1,7 +1,7 @@
 -- `say_at` meets its contract: the table is that of the definition.
 -- Assumes nothing.
-use borrow.Author.Needs.{needs}
 use mathlib.Core.Path.{refl}
+use native.Mathlib.Omega.{arith}
 use Rattle.reading.specs.Code.{sayTable, sayOf}
 use Rattle.reading.proofs.say_at.Statement.{statement}
 use Rattle.reading.proofs.say_at.Tie as tie
@@ -11,4 +11,4 @@ unfolding sayOf sayTable
 returns c = refl
 
 pub say-at-spec : {M : Type 1} → statement M
-say-at-spec = tie.close (tie.spec (search needs) (search needs) (search needs) returns)
+say-at-spec = tie.close (tie.spec (λ c. omega arith) (λ c. omega arith) (λ c. omega arith) returns)

@@ -1,6 +1,5 @@
 -- `statement` meets its contract.
 -- Assumes nothing.
-use borrow.Author.Needs.{needs}
 use Rattle.numbers.proofs.Kit.{tests}
 use Rattle.reading.specs.Code.{statementBy}
 use Rattle.reading.proofs.statement.Statement.{statement}
@@ -21,4 +20,4 @@ returns-3 c = rw (c .by-form .ensures) (search tests)
 pub statement-spec : {M : Type 1} → statement M
 statement-spec =
     tie.close
-    (tie.spec (search needs) returns (search needs) returns-2 (search needs) returns-3)
+    (tie.spec (λ c κs. tt) returns (λ c κs. tt) returns-2 (λ c κs. tt) returns-3)

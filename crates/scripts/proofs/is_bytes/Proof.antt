@@ -1,8 +1,8 @@
 -- `is_bytes` is safe and ends: each turn leaves fewer bytes.
 -- Assumes nothing.
 use Prim.Native.Nat.{_-_}
+use native.Mathlib.Omega.{arith}
 use lib.ListN.{length}
-use borrow.Author.Needs.{needs}
 use Rattle.scripts.proofs.is_bytes.Statement.{statement}
 use Rattle.scripts.proofs.is_bytes.Tie as tie
 
@@ -15,4 +15,4 @@ abbrev μ-loop : tie.MeasureT-loop
 pub is-bytes-spec : {M : Type 1} → statement M
 is-bytes-spec =
     tie.close
-    (tie.spec Inv-loop μ-loop (search needs) (search needs) (search needs) (search needs) (search needs) (search needs) (search needs))
+    (tie.spec Inv-loop μ-loop (λ c. tt) (λ c. omega arith) (λ c. tt) (λ c. omega arith) (λ c. omega arith) (λ c. tt) (λ c. tt))

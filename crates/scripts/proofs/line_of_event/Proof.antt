@@ -1,8 +1,8 @@
 -- `line_of_event` is safe and ends: each line is behind the one before.
 -- Assumes nothing.
 use Prim.Native.Nat.{_+_, _-_, _≤_}
+use native.Mathlib.Omega.{arith}
 use lib.ListN.{length}
-use borrow.Author.Needs.{needs}
 use Rattle.scripts.proofs.line_of_event.Statement.{statement}
 use Rattle.scripts.proofs.line_of_event.Tie as tie
 
@@ -15,5 +15,5 @@ abbrev μ-loop : tie.MeasureT-loop
 pub line-of-event-spec : {M : Type 1} → statement M
 line-of-event-spec =
     tie.close
-    (tie.spec Inv-loop μ-loop (search needs) (search needs) (search needs) (search needs) (search needs) (search needs) (search needs)
-    (search needs) (search needs) (search needs) (search needs))
+    (tie.spec Inv-loop μ-loop (λ c. omega arith) (λ c κs. omega arith) (λ c κs. tt) (λ c κs. tt) (λ c κs. tt) (λ c. tt) (λ c κs. tt)
+    (λ c. omega arith) (λ c. omega arith) (λ c. omega arith) (λ c. tt))

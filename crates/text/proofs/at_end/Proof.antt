@@ -1,8 +1,8 @@
 -- `at_end` meets its contract.
 -- Assumes nothing.
-use borrow.Author.Needs.{needs}
 use denote.Ref.{now}
 use mathlib.Core.Path.{refl}
+use native.Mathlib.Omega.{arith}
 use Rattle.text.proofs.Lines.{at-end, not-at-end}
 use Rattle.text.proofs.at_end.Statement.{statement}
 use Rattle.text.proofs.at_end.Tie as tie
@@ -14,4 +14,4 @@ returns-2 : tie.Need-returns-2
 returns-2 c = let a = c .before .before .before .before .args in at-end (now (a .s)) (a .at) _ (c .byte .result) refl (c .byte .ensures)
 
 pub at-end-spec : {M : Type 1} → statement M
-at-end-spec = tie.close (tie.spec (search needs) returns (search needs) (search needs) returns-2)
+at-end-spec = tie.close (tie.spec (λ c. omega arith) returns (λ c. omega arith) (λ c κs. tt) returns-2)

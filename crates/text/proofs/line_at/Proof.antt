@@ -1,6 +1,5 @@
 -- `line_at` meets its contract.
 -- Assumes nothing.
-use borrow.Author.Needs.{needs}
 use denote.Ref.{now}
 use native.Mathlib.Omega.{arith}
 use Rattle.text.proofs.Lines.{end-le, line-at}
@@ -18,4 +17,4 @@ returns c =
     line-at (now (s .args .s)) (s .args .at) (c .before .line-end .result) (c .line-next .result) (s .pre) (c .before .line-end .ensures) (c .line-next .ensures)
 
 pub line-at-spec : {M : Type 1} → statement M
-line-at-spec = tie.close (tie.spec (search needs) line-next-requires returns)
+line-at-spec = tie.close (tie.spec (λ c κs. omega arith) line-next-requires returns)

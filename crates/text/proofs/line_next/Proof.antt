@@ -1,10 +1,10 @@
 -- `line_next` meets its contract.
 -- Assumes nothing.
-use borrow.Author.Needs.{needs}
 use borrow.Author.Tests.{eq-eqb, ne-eqb}
 use denote.Ref.{now}
 use mathlib.Core.Bool.{true, false}
 use native.Mathlib.Nat.{add-zero}
+use native.Mathlib.Omega.{arith}
 use Rattle.text.proofs.Lines.{ending, ending-none}
 use Rattle.text.proofs.line_next.Statement.{statement}
 use Rattle.text.proofs.line_next.Tie as tie
@@ -26,4 +26,4 @@ returns-3 c =
 
 pub line-next-spec : {M : Type 1} → statement M
 line-next-spec =
-    tie.close (tie.spec returns (search needs) (search needs) returns-2 (search needs) returns-3)
+    tie.close (tie.spec returns (λ c. omega arith) (λ c. omega arith) returns-2 (λ c. omega arith) returns-3)

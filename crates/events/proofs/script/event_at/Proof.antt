@@ -1,6 +1,6 @@
 -- `event_at` meets its contract: each field is read where specs/ has it; a field of one byte is below 256.
 -- Assumes nothing.
-use borrow.Author.Needs.{needs}
+use native.Mathlib.Omega.{arith}
 use Rattle.numbers.proofs.Laws.{field-below}
 use Rattle.program.proofs.Results.{got32}
 use Rattle.events.specs.Events.{eventAt}
@@ -22,17 +22,17 @@ pub event-at-spec : {M : Type 1} → statement M
 event-at-spec =
     tie.close
     (tie.spec
-    (search needs)
-    (search needs)
-    (search needs)
-    (search needs)
+    (λ c. omega arith)
+    (λ c κs. tt)
+    (λ c. omega arith)
+    (λ c κs. omega arith)
     cast-t7
-    (search needs)
-    (search needs)
+    (λ c. omega arith)
+    (λ c κs. omega arith)
     cast-t10
-    (search needs)
-    (search needs)
-    (search needs)
-    (search needs)
-    (search needs)
+    (λ c. omega arith)
+    (λ c κs. tt)
+    (λ c. omega arith)
+    (λ c κs. tt)
+    (λ c κs. tt)
     returns)

@@ -4,7 +4,6 @@ use mathlib.Core.Path.{sym, _≡_, _∙_}
 use mathlib.Core.Bool.{false}
 use Prim.Native.Nat.{ℕ, _-_, _≤_, _<_}
 use native.Mathlib.Omega.{arith}
-use borrow.Author.Needs.{needs}
 use Rattle.events.specs.Events.{badEvent, eventCount, firstBadEvent}
 use Rattle.numbers.proofs.Tests.{first-none, first-here}
 use borrow.Author.Count.{below-more}
@@ -53,7 +52,7 @@ first-bad-event-spec =
     (tie.spec
     Inv-loop
     μ-loop
-    (search needs)
+    (λ c κs. tt)
     loop-holds
     is-bad-event-requires
     returns

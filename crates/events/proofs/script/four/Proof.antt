@@ -2,7 +2,6 @@
 -- Assumes nothing.
 use native.Mathlib.Omega.{arith}
 use Rattle.events.proofs.Scripts.{four-bytes}
-use borrow.Author.Needs.{needs}
 use Rattle.events.proofs.script.four.Statement.{statement}
 use Rattle.events.proofs.script.four.Tie as tie
 
@@ -31,17 +30,17 @@ pub four-spec : {M : Type 1} → statement M
 four-spec =
     tie.close
     (tie.spec
-    (search needs)
-    (search needs)
-    (search needs)
-    (search needs)
-    (search needs)
-    (search needs)
-    (search needs)
-    (search needs)
-    (search needs)
-    (search needs)
-    (search needs)
+    (λ c. omega arith)
+    (λ c κs. tt)
+    (λ c. omega arith)
+    (λ c. omega arith)
+    (λ c κs. tt)
+    (λ c. omega arith)
+    (λ c. omega arith)
+    (λ c κs. tt)
+    (λ c. omega arith)
+    (λ c. omega arith)
+    (λ c κs. tt)
     mul-result
     add-result
     mul-result-2

@@ -3,7 +3,6 @@
 use mathlib.Core.Bool.{or-false}
 use native.Mathlib.Omega.{arith}
 use borrow.Author.Tests.{le-leb, lt-leb}
-use borrow.Author.Needs.{needs}
 use Rattle.events.specs.Events.{badEvent}
 use Rattle.events.proofs.script.is_bad_event.Statement.{statement}
 use Rattle.events.proofs.script.is_bad_event.Tie as tie
@@ -24,10 +23,10 @@ pub is-bad-event-spec : {M : Type 1} → statement M
 is-bad-event-spec =
     tie.close
     (tie.spec
-    (search needs)
-    (search needs)
+    (λ c κs. omega arith)
+    (λ c κs. tt)
     returns
-    (search needs)
-    (search needs)
-    (search needs)
+    (λ c. omega arith)
+    (λ c κs. omega arith)
+    (λ c κs. tt)
     returns-2)

@@ -2,7 +2,6 @@
 -- Assumes nothing.
 use native.Mathlib.Omega.{arith}
 use Rattle.events.proofs.Scripts.{two-bytes}
-use borrow.Author.Needs.{needs}
 use Rattle.events.proofs.script.two.Statement.{statement}
 use Rattle.events.proofs.script.two.Tie as tie
 
@@ -22,11 +21,11 @@ pub two-spec : {M : Type 1} → statement M
 two-spec =
     tie.close
     (tie.spec
-    (search needs)
-    (search needs)
-    (search needs)
-    (search needs)
-    (search needs)
+    (λ c. omega arith)
+    (λ c κs. tt)
+    (λ c. omega arith)
+    (λ c. omega arith)
+    (λ c κs. tt)
     mul-result
     add-result
     cast-result

@@ -4,7 +4,6 @@ use native.Mathlib.Omega.{arith}
 use Rattle.program.proofs.Results.{got32}
 use Rattle.events.specs.Events.{eventAt}
 use Rattle.events.proofs.Scripts.{event-inside, one-byte}
-use borrow.Author.Needs.{needs}
 use Rattle.events.proofs.script.whole_event.Statement.{statement}
 use Rattle.events.proofs.script.whole_event.Tie as tie
 
@@ -32,15 +31,15 @@ pub whole-event-spec : {M : Type 1} → statement M
 whole-event-spec =
     tie.close
     (tie.spec
-    (search needs)
+    (λ c. omega arith)
     four-requires
-    (search needs)
+    (λ c. omega arith)
     shared-slice-read-t7
-    (search needs)
+    (λ c. omega arith)
     shared-slice-read-t10
-    (search needs)
+    (λ c. omega arith)
     two-requires
-    (search needs)
+    (λ c. omega arith)
     four-requires-2
-    (search needs)
+    (λ c κs. tt)
     returns)

@@ -1,7 +1,6 @@
 -- `write::first_half` meets its contract: its parts, one behind the other.
 -- Assumes nothing.
 use native.Mathlib.Omega.{arith}
-use borrow.Author.Needs.{needs}
 use Rattle.image.proofs.Laws.{shape-small, first-packed}
 use Rattle.image.proofs.write.first_half.Statement.{statement}
 use Rattle.image.proofs.write.first_half.Tie as tie
@@ -20,4 +19,4 @@ returns c =
     (f .before .before .two-bytes .ensures) (f .before .two-bytes2 .ensures) (f .four-bytes .ensures) (c .eight-bytes .ensures)
 
 pub first-half-spec : {M : Type 1} → statement M
-first-half-spec = tie.close (tie.spec (search needs) (search needs) mul-shapes add-shapes (search needs) (search needs) (search needs) (search needs) (search needs) (search needs) returns)
+first-half-spec = tie.close (tie.spec (λ c κs. tt) (λ c κs. tt) mul-shapes add-shapes (λ c. omega arith) (λ c κs. tt) (λ c κs. tt) (λ c κs. tt) (λ c κs. tt) (λ c κs. tt) returns)

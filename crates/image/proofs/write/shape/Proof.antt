@@ -1,6 +1,6 @@
 -- `write::shape` meets its contract: by the cases of an operand.
 -- Assumes nothing.
-use borrow.Author.Needs.{needs}
+use native.Mathlib.Omega.{arith}
 use Rattle.image.specs.Layout.{shape}
 use Rattle.image.proofs.write.shape.Statement.{statement}
 use Rattle.image.proofs.write.shape.Tie as tie
@@ -18,4 +18,4 @@ unfolding shape
 returns-3 c = rw (c .enum-told3 .given .1)
 
 pub shape-spec : {M : Type 1} → statement M
-shape-spec = tie.close (tie.spec (search needs) (search needs) (search needs) returns returns-2 returns-3)
+shape-spec = tie.close (tie.spec (λ c. omega arith) (λ c. omega arith) (λ c. omega arith) returns returns-2 returns-3)

@@ -1,7 +1,7 @@
 -- `write::write_cell` meets its contract: two halves, one behind the other.
 -- Assumes nothing.
 use mathlib.Core.Path.{sym}
-use borrow.Author.Needs.{needs}
+use native.Mathlib.Omega.{arith}
 use Rattle.numbers.proofs.Laws.{sets-out}
 use Rattle.image.specs.Layout.{cellBytes}
 use Rattle.image.proofs.Laws.{twice-written, cell-halves}
@@ -22,4 +22,4 @@ returns-2 c =
     (w₁ .write .ensures) (w₂ .write2 .ensures))
 
 pub write-cell-spec : {M : Type 1} → statement M
-write-cell-spec = tie.close (tie.spec returns (search needs) (search needs) (search needs) (search needs) (search needs) (search needs) returns-2)
+write-cell-spec = tie.close (tie.spec returns (λ c κs. tt) (λ c κs. tt) (λ c. omega arith) (λ c κs. tt) (λ c κs. tt) (λ c. omega arith) returns-2)

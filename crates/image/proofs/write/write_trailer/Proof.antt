@@ -2,7 +2,6 @@
 -- Assumes nothing.
 use mathlib.Core.Path.{refl, sym}
 use native.Mathlib.Omega.{arith}
-use borrow.Author.Needs.{needs}
 use Rattle.numbers.proofs.Laws.{sets-out}
 use Rattle.image.specs.Layout.{trailerBytes, imageLength}
 use Rattle.image.proofs.Laws.{twice-written, trailer-halves}
@@ -29,4 +28,4 @@ returns-2 c =
     (twice-written (a .b .now) (a .at) (e₁ .eight-bytes .result) (e₂ .eight-bytes2 .result) refl refl (w₁ .write .ensures) (w₂ .write2 .ensures))
 
 pub write-trailer-spec : {M : Type 1} → statement M
-write-trailer-spec = tie.close (tie.spec returns (search needs) (search needs) (search needs) cast-whole (search needs) (search needs) (search needs) (search needs) (search needs) (search needs) (search needs) (search needs) returns-2)
+write-trailer-spec = tie.close (tie.spec returns (λ c κs. tt) (λ c. omega arith) (λ c κs. tt) cast-whole (λ c κs. tt) (λ c κs. tt) (λ c κs. tt) (λ c κs. tt) (λ c κs. tt) (λ c. omega arith) (λ c κs. tt) (λ c. omega arith) returns-2)

@@ -1,6 +1,6 @@
 -- `number` is safe and ends: each turn leaves a digit less.
 -- Assumes nothing.
-use borrow.Author.Needs.{needs}
+use native.Mathlib.Omega.{arith}
 use Rattle.parts.proofs.Line.number.Statement.{statement}
 use Rattle.parts.proofs.Line.number.Tie as tie
 
@@ -13,5 +13,5 @@ abbrev μ-loop : tie.MeasureT-loop
 pub number-spec : {M : Type 1} → statement M
 number-spec =
     tie.close
-    (tie.spec Inv-loop μ-loop (search needs) (search needs) (search needs) (search needs) (search needs) (search needs) (search needs)
-    (search needs))
+    (tie.spec Inv-loop μ-loop (λ c κs. tt) (λ c. tt) (λ c. omega arith) (λ c κs. tt) (λ c κs. tt) (λ c. omega arith) (λ c. tt)
+    (λ c. tt))

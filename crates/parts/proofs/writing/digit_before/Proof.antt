@@ -1,7 +1,7 @@
 -- `digit_before` is safe and ends.
 -- Assumes nothing.
 use Prim.Native.Nat.{_-_}
-use borrow.Author.Needs.{needs}
+use native.Mathlib.Omega.{arith}
 use Rattle.parts.proofs.writing.digit_before.Statement.{statement}
 use Rattle.parts.proofs.writing.digit_before.Tie as tie
 
@@ -14,4 +14,4 @@ abbrev μ-loop : tie.MeasureT-loop
 pub digit-before-spec : {M : Type 1} → statement M
 digit-before-spec =
     tie.close
-    (tie.spec Inv-loop μ-loop (search needs) (search needs) (search needs) (search needs) (search needs) (search needs) (search needs))
+    (tie.spec Inv-loop μ-loop (λ c. tt) (λ c. omega arith) (λ c. omega arith) (λ c. tt) (λ c. omega arith) (λ c. omega arith) (λ c. tt))

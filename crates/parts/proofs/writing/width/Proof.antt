@@ -1,7 +1,7 @@
 -- `width` is safe and ends.
 -- Assumes nothing.
 use Prim.Native.Nat.{_-_}
-use borrow.Author.Needs.{needs}
+use native.Mathlib.Omega.{arith}
 use Rattle.parts.proofs.writing.width.Statement.{statement}
 use Rattle.parts.proofs.writing.width.Tie as tie
 
@@ -14,4 +14,4 @@ abbrev μ-loop : tie.MeasureT-loop
 pub width-spec : {M : Type 1} → statement M
 width-spec =
     tie.close
-    (tie.spec Inv-loop μ-loop (search needs) (search needs) (search needs) (search needs) (search needs) (search needs) (search needs))
+    (tie.spec Inv-loop μ-loop (λ c. tt) (λ c. omega arith) (λ c. tt) (λ c. omega arith) (λ c. omega arith) (λ c. tt) (λ c. tt))

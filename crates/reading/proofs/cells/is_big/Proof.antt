@@ -1,7 +1,7 @@
 -- `is_big` meets its contract.
 -- Assumes nothing.
-use borrow.Author.Needs.{needs}
 use mathlib.Core.Path.{sym}
+use native.Mathlib.Omega.{arith}
 use Rattle.forms.specs.Code.{valueOf}
 use Rattle.text.specs.Faults.{bigValue}
 use Rattle.reading.proofs.Values.{big-size}
@@ -17,4 +17,4 @@ unfolding bigValue valueOf
 returns-2 c = rw (c .enum-told .given .1)
 
 pub is-big-spec : {M : Type 1} → statement M
-is-big-spec = tie.close (tie.spec (search needs) (search needs) (search needs) returns returns-2)
+is-big-spec = tie.close (tie.spec (λ c. omega arith) (λ c. omega arith) (λ c. omega arith) returns returns-2)

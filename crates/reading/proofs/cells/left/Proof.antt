@@ -1,6 +1,5 @@
 -- `left` meets its contract.
 -- Assumes nothing.
-use borrow.Author.Needs.{needs}
 use Rattle.reading.specs.Code.{leftBy}
 use Rattle.reading.proofs.cells.left.Statement.{statement}
 use Rattle.reading.proofs.cells.left.Tie as tie
@@ -14,4 +13,4 @@ unfolding leftBy
 returns-2 c = rw (c .if1 .left)
 
 pub left-spec : {M : Type 1} → statement M
-left-spec = tie.close (tie.spec (search needs) returns returns-2)
+left-spec = tie.close (tie.spec (λ c κs. tt) returns returns-2)

@@ -1,6 +1,6 @@
 -- `operand` meets its contract.
 -- Assumes nothing.
-use borrow.Author.Needs.{needs}
+use native.Mathlib.Omega.{arith}
 use Rattle.numbers.proofs.Kit.{fit32, back32}
 use Rattle.forms.specs.Code.{valueOf}
 use Rattle.reading.specs.Code.{operandOf}
@@ -19,4 +19,4 @@ returns-2 c = rw (c .before .value2 .given .1, key-name)
 pub operand-spec : {M : Type 1} → statement M
 operand-spec =
     tie.close
-    (tie.spec (search needs) (search needs) (search needs) (search needs) returns returns-2)
+    (tie.spec (λ c. omega arith) (λ c κs. tt) (λ c. omega arith) (λ c. omega arith) returns returns-2)

@@ -1,6 +1,5 @@
 -- `signed` meets its contract.
 -- Assumes nothing.
-use borrow.Author.Needs.{needs}
 use native.Mathlib.Omega.{arith}
 use mathlib.Core.Path.{_≡_, sym, _∙_}
 use lib.IntN.{pos}
@@ -33,4 +32,4 @@ returns-3 c =
     toZ-pos w32 (omega arith) ∙ meaning-above (a .negative) (a .size) (c .if2 .left) ∙ sym (small-is (a .negative) (a .size) (c .before .if1 .left))
 
 pub signed-spec : {M : Type 1} → statement M
-signed-spec = tie.close (tie.spec (search needs) returns (search needs) sub-result returns-2 returns-3)
+signed-spec = tie.close (tie.spec (λ c. omega arith) returns (λ c. omega arith) sub-result returns-2 returns-3)

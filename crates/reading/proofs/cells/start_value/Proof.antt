@@ -1,6 +1,6 @@
 -- `start_value` meets its contract.
 -- Assumes nothing.
-use borrow.Author.Needs.{needs}
+use native.Mathlib.Omega.{arith}
 use Rattle.numbers.proofs.Kit.{fit32, back32}
 use Rattle.forms.specs.Code.{startOf}
 use Rattle.reading.specs.Code.{smallOf}
@@ -17,4 +17,4 @@ unfolding startOf smallOf tooBig
 returns-2 c = rw (c .enum-told .given .1)
 
 pub start-value-spec : {M : Type 1} → statement M
-start-value-spec = tie.close (tie.spec (search needs) (search needs) (search needs) returns returns-2)
+start-value-spec = tie.close (tie.spec (λ c. omega arith) (λ c κs. tt) (λ c. omega arith) returns returns-2)

@@ -1,6 +1,6 @@
 -- `character` meets its contract.
 -- Assumes nothing.
-use borrow.Author.Needs.{needs}
+use native.Mathlib.Omega.{arith}
 use denote.Ref.{now}
 use lib.ListN.{List·getD-eq-default}
 use Rattle.text.proofs.Scanning.{inside}
@@ -14,4 +14,4 @@ returns-2 : tie.Need-returns-2
 returns-2 c = rw (List·getD-eq-default (now (c .before .args .l)) 32 (c .if1 .left))
 
 pub character-spec : {M : Type 1} → statement M
-character-spec = tie.close (tie.spec (search needs) returns returns-2)
+character-spec = tie.close (tie.spec (λ c. omega arith) returns returns-2)

@@ -1,7 +1,6 @@
 -- `is_printable` meets its contract. The loop's invariant: what was found so far and the bytes from here on decide.
 -- Assumes nothing.
 use Prim.Native.Nat.{_≤_, _-_}
-use borrow.Author.Needs.{needs}
 use denote.Ref.{now}
 use lib.ListN.{length, drop}
 use mathlib.Core.Bool.{_&&_}
@@ -48,7 +47,7 @@ is-printable-spec =
     μ-loop
     loop-holds
     shared-slice-read-is-allowed
-    (search needs)
+    (λ c κs. tt)
     add-i
     loop-less
     loop-again

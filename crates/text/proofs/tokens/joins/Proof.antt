@@ -1,6 +1,5 @@
 -- `joins` meets its contract.
 -- Assumes nothing.
-use borrow.Author.Needs.{needs}
 use Rattle.text.specs.Tokens.{joins}
 use Rattle.text.proofs.tokens.joins.Statement.{statement}
 use Rattle.text.proofs.tokens.joins.Tie as tie
@@ -10,4 +9,4 @@ unfolding joins
 returns c = rw (c .before .is-word-character .ensures, c .is-word-character2 .ensures)
 
 pub joins-spec : {M : Type 1} → statement M
-joins-spec = tie.close (tie.spec (search needs) (search needs) returns)
+joins-spec = tie.close (tie.spec (λ c κs. tt) (λ c κs. tt) returns)

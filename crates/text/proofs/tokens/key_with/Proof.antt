@@ -1,6 +1,6 @@
 -- `key_with` meets its contract.
 -- Assumes nothing.
-use borrow.Author.Needs.{needs}
+use native.Mathlib.Omega.{arith}
 use Rattle.numbers.proofs.Kit.{tests}
 use Rattle.text.specs.Code.{keyWith}
 use Rattle.text.proofs.tokens.key_with.Statement.{statement}
@@ -19,4 +19,4 @@ unfolding keyWith
 returns-3 c = search tests
 
 pub key-with-spec : {M : Type 1} → statement M
-key-with-spec = tie.close (tie.spec returns (search needs) (search needs) returns-2 returns-3)
+key-with-spec = tie.close (tie.spec returns (λ c. omega arith) (λ c. omega arith) returns-2 returns-3)

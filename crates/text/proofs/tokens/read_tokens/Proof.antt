@@ -1,7 +1,6 @@
 -- `read_tokens` meets its contract. The loop's invariant: reading on from here gives the whole; the present token has no more characters than were passed.
 -- Assumes nothing.
 use Prim.Native.Nat.{_≤_, _<_, _-_, _^_}
-use borrow.Author.Needs.{needs}
 use denote.Ref.{now}
 use lib.ListN.{length, drop, getD}
 use mathlib.Core.Path.{_≡_, refl, sym, _∙_}
@@ -93,20 +92,20 @@ read-tokens-spec =
     (tie.spec
     Inv-loop
     μ-loop
-    (search needs)
-    (search needs)
+    (λ c κs. tt)
+    (λ c κs. tt)
     loop-holds
     shared-slice-read-c
     add-i
-    (search needs)
+    (λ c κs. tt)
     grown-requires
-    (search needs)
+    (λ c κs. tt)
     returns
-    (search needs)
-    (search needs)
-    (search needs)
-    (search needs)
-    (search needs)
+    (λ c κs. tt)
+    (λ c. omega arith)
+    (λ c. omega arith)
+    (λ c. omega arith)
+    (λ c κs. tt)
     loop-less
     loop-again
     loop-less-2

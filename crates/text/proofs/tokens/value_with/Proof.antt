@@ -1,6 +1,5 @@
 -- `value_with` meets its contract.
 -- Assumes nothing.
-use borrow.Author.Needs.{needs}
 use native.Mathlib.Omega.{arith}
 use Rattle.text.specs.Code.{valueWith}
 use Rattle.text.proofs.tokens.value_with.Statement.{statement}
@@ -24,4 +23,4 @@ unfolding valueWith
 returns-2 c = rw (c .if1 .left)
 
 pub value-with-spec : {M : Type 1} → statement M
-value-with-spec = tie.close (tie.spec mul-result sub-result (search needs) add-result returns returns-2)
+value-with-spec = tie.close (tie.spec mul-result sub-result (λ c. omega arith) add-result returns returns-2)

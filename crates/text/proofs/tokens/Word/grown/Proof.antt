@@ -1,6 +1,6 @@
 -- `Word::grown` meets its contract.
 -- Assumes nothing.
-use borrow.Author.Needs.{needs}
+use native.Mathlib.Omega.{arith}
 use borrow.Author.Tests.{eq-eqb, ne-eqb}
 use Rattle.text.specs.Code.{grown}
 use Rattle.text.proofs.Scanning.{grown-is, digits-more}
@@ -27,4 +27,4 @@ returns-2 c =
 pub grown-spec : {M : Type 1} → statement M
 grown-spec =
     tie.close
-    (tie.spec returns (search needs) (search needs) (search needs) value-with-requires returns-2)
+    (tie.spec returns (λ c κs. tt) (λ c. omega arith) (λ c κs. tt) value-with-requires returns-2)
