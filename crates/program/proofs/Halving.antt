@@ -16,21 +16,21 @@ use Rattle.program.specs.Code.{nameOf, namesOf, rank, rankAt, rising}
 use Rattle.program.proofs.Keys.{eq-name}
 
 -- Two keys with the same rank are the same.
-pub rank-one : (k n : ℕ) → k < 65536 → n < 65536 → rank k ≡ rank n → k ≡ n
+rank-one : (k n : ℕ) → k < 65536 → n < 65536 → rank k ≡ rank n → k ≡ n
 unfolding rank
 rank-one k n g h e = omega arith
 
 -- The name stands at a place; it stands at none.
-pub found : (i k : ℕ) (s : List ℕ) → i < length s / 2 → field 2 (i * 2) s ≡ k → anyOf (eqList (nameOf k)) (namesOf s) ≡ true
+found-at : (i k : ℕ) (s : List ℕ) → i < length s / 2 → field 2 (i * 2) s ≡ k → anyOf (eqList (nameOf k)) (namesOf s) ≡ true
 unfolding namesOf anyOf field
-found i k [] h e = absurd (omega arith)
-found i k (a ∷ []) h e = absurd (omega arith)
-found zero k (a ∷ b ∷ s) h e = rw (eq-name k (number (a ∷ b ∷ [])), eq-eqb k (number (a ∷ b ∷ [])) (sym e))
-found (suc i) k (a ∷ b ∷ s) h e =
+found-at i k [] h e = absurd (omega arith)
+found-at i k (a ∷ []) h e = absurd (omega arith)
+found-at zero k (a ∷ b ∷ s) h e = rw (eq-name k (number (a ∷ b ∷ [])), eq-eqb k (number (a ∷ b ∷ [])) (sym e))
+found-at (suc i) k (a ∷ b ∷ s) h e =
     let d : suc i * 2 ≡ suc (suc (i * 2)) = omega arith in
-    rw (found i k s (omega arith) (ap (λ (j : ℕ). field 2 j (a ∷ b ∷ s)) (sym d) ∙ e)) (or-true (eqList (nameOf k) (nameOf (number (a ∷ b ∷ [])))))
+    rw (found-at i k s (omega arith) (ap (λ (j : ℕ). field 2 j (a ∷ b ∷ s)) (sym d) ∙ e)) (or-true (eqList (nameOf k) (nameOf (number (a ∷ b ∷ [])))))
 
-pub nowhere : (k : ℕ) (s : List ℕ) → ((i : ℕ) → i < length s / 2 → field 2 (i * 2) s ≡ k → ⊥) → anyOf (eqList (nameOf k)) (namesOf s) ≡ false
+nowhere : (k : ℕ) (s : List ℕ) → ((i : ℕ) → i < length s / 2 → field 2 (i * 2) s ≡ k → ⊥) → anyOf (eqList (nameOf k)) (namesOf s) ≡ false
 unfolding namesOf anyOf field
 nowhere k [] h = refl
 nowhere k (a ∷ []) h = refl
@@ -46,7 +46,7 @@ module _ (s : List ℕ) (r : T (rising s)) where
   unfolding rising
   next-higher i h = ltb→lt (rankAt i s) (rankAt (suc i) s) (all-below (λ j. ltb (rankAt j s) (rankAt (suc j) s)) (length s / 2 - 1) r i (omega arith))
 
-  pub later-higher : (d i : ℕ) → suc (i + d) < length s / 2 → rankAt i s < rankAt (suc (i + d)) s
+  later-higher : (d i : ℕ) → suc (i + d) < length s / 2 → rankAt i s < rankAt (suc (i + d)) s
   later-higher zero i h = let e : i + 0 ≡ i = omega arith in rw e (next-higher i (omega arith))
   later-higher (suc d) i h =
       let e : i + suc d ≡ suc (i + d) = omega arith in
@@ -60,16 +60,16 @@ module _ (s : List ℕ) (r : T (rising s)) where
       let e : suc (i + (j - suc i)) ≡ j = omega arith in
       subst (λ (k : ℕ). rankAt i s < rankAt k s) e (later-higher (j - suc i) i (omega arith))
 
-  pub all-lower : (m x : ℕ) → m < length s / 2 → rankAt m s < x → (i : ℕ) → i < suc m → rankAt i s < x
+  all-lower : (m x : ℕ) → m < length s / 2 → rankAt m s < x → (i : ℕ) → i < suc m → rankAt i s < x
   all-lower m x h l i g = if-same i m (λ e. rw e l) (λ o. let a = higher-than i m (omega arith) h in omega (arith, a))
 
-  pub all-higher : (m x : ℕ) → m < length s / 2 → x < rankAt m s → (i : ℕ) → m ≤ i → i < length s / 2 → x < rankAt i s
+  all-higher : (m x : ℕ) → m < length s / 2 → x < rankAt m s → (i : ℕ) → m ≤ i → i < length s / 2 → x < rankAt i s
   all-higher m x h l i g o = if-same i m (λ e. rw e l) (λ n. let a = higher-than m i (omega arith) o in omega (arith, a))
 
 -- Where all names before a place are lower than a key and all others higher, its name is none of them.
-pub between : (s : List ℕ) (m k : ℕ) → ((i : ℕ) → i < m → rankAt i s < rank k) → ((i : ℕ) → m ≤ i → i < length s / 2 → rank k < rankAt i s)
+no-place : (s : List ℕ) (m k : ℕ) → ((i : ℕ) → i < m → rankAt i s < rank k) → ((i : ℕ) → m ≤ i → i < length s / 2 → rank k < rankAt i s)
     → anyOf (eqList (nameOf k)) (namesOf s) ≡ false
-between s m k lower higher =
+no-place s m k lower higher =
     nowhere k s (λ i h e.
     if-below i m
     (λ l. let a = lower i l in let b : rankAt i s ≡ rank k = ap rank e in absurd (omega (arith, a, b)))
@@ -105,7 +105,7 @@ module _ {s : List ℕ} {k low high m n x y : ℕ} (h : Seeks s k low high) (c :
       }
 
   pub sought-here : n < 65536 → k < 65536 → x ≡ y → true ≡ anyOf (eqList (nameOf k)) (namesOf s)
-  sought-here a b q = sym (found m k s (omega (arith, h .inside)) (sym e ∙ rank-one n k a b (sym f ∙ q ∙ g)))
+  sought-here a b q = sym (found-at m k s (omega (arith, h .inside)) (sym e ∙ rank-one n k a b (sym f ∙ q ∙ g)))
 
 pub sought-nowhere : {s : List ℕ} {k low high : ℕ} → Seeks s k low high → high ≤ low → false ≡ anyOf (eqList (nameOf k)) (namesOf s)
-sought-nowhere {s} {k} {low} h l = sym (between s low k (h .lower) (λ i o. h .higher i (omega (arith, h .order))))
+sought-nowhere {s} {k} {low} h l = sym (no-place s low k (h .lower) (λ i o. h .higher i (omega (arith, h .order))))
