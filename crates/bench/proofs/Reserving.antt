@@ -14,7 +14,7 @@ use lib.ListN.{length, getD, length-append}
 use Rattle.numbers.specs.Bytes.{ascii}
 use Rattle.numbers.specs.Tests.{anyOf, anyBelow, eqList, NoRow}
 use Rattle.numbers.proofs.Truth.{is-true, is-no, true-is, left-of, right-of, neither}
-use Rattle.numbers.proofs.Tests.{eqList-eq, eqList-refl, none-below, any-below}
+use Rattle.numbers.proofs.Tests.{eqList-refl, none-below, any-below}
 use Rattle.program.specs.Names.{Name, paperVariable, twoCharacters, reserved, newlyReserved, userName, freeName}
 use Rattle.program.specs.Variables.{inRange, literals, mostCells}
 use Rattle.program.specs.Statements.{Literal, Variable, Always, Statement, Set, BR, PR, operands, writes, targets, compared}
@@ -26,7 +26,8 @@ use Rattle.text.proofs.Filled.{Sound}
 use Rattle.reading.proofs.Heard.{SoundAt, reading-sound}
 use Rattle.refusals.specs.Lines.{lineAt, Says, DeclaredAt, isName, uses, UsedAt}
 use Rattle.refusals.proofs.Rows.{row-2, row-3, row-4, row-5, row-6, row-7}
-use Rattle.refusals.proofs.Uses.{reserved-declared, used-undeclared}
+use Rattle.refusals.proofs.Uses.{one-name, reserved-declared, used-undeclared}
+use Rattle.agreement.proofs.Names.{declares-it}
 use Rattle.image.specs.Layout.{labelCount, variableCount}
 use Rattle.image.specs.Check.{recordName, badName, badTarget, badStart, badRecords, imageFaults}
 use Rattle.printing.specs.Listing.{plain}
@@ -120,9 +121,6 @@ module _ (l : List ℕ) (s : Statement Name) (p : Printed l (Acts s)) (h : lengt
 
 -- ---- the request
 
-same-declared : (w v : Name) → (eqList w v || false) ≡ true → w ≡ v
-same-declared w v e = eqList-eq w v (true-is (eqList w v) (sym (or-false (eqList w v)) ∙ e))
-
 same-answer : (a : Translated) {n l k : ℕ} → a .number ≡ n → a .line ≡ l → a .length ≡ k → a ≡ answered n l k
 same-answer a e f g = rw (← e, ← f, ← g) refl
 
@@ -130,8 +128,8 @@ same-answer a e f g = rw (← e, ← f, ← g) refl
 declared-two : (x : Line) (w : Name) → Sound x → declaresIt w x ≡ true → T (twoCharacters w)
 unfolding declaresIt declares anyOf
 declared-two Blank w s e = absurd (false≢true e)
-declared-two (Label v) w s e = rw (same-declared w v e) s
-declared-two (Declared v z) w s e = rw (same-declared w v e) s
+declared-two (Label v) w s e = rw (one-name w v e) s
+declared-two (Declared v z) w s e = rw (one-name w v e) s
 declared-two (Acts a) w s e = absurd (false≢true e)
 
 -- The lines that the request names: what each declares or uses, and that it is short.
@@ -140,20 +138,20 @@ self w = rw (is-true (eqList w w) (eqList-refl w))
 
 module _ (w : Name) where
   label-declares : declaresIt w (Label w) ≡ true
-  unfolding declaresIt declares anyOf
-  label-declares = self w
+  unfolding declares
+  label-declares = declares-it w (Label w) refl
 
   label-alone : (v : Name) → declaresIt v (Label w) ≡ true → v ≡ w
   unfolding declaresIt declares anyOf
-  label-alone v e = same-declared v w e
+  label-alone v e = one-name v w e
 
   variable-declares : (z : ℤ) → declaresIt w (Declared w z) ≡ true
-  unfolding declaresIt declares anyOf
-  variable-declares z = self w
+  unfolding declares
+  variable-declares z = declares-it w (Declared w z) refl
 
   variable-alone : (z : ℤ) (v : Name) → declaresIt v (Declared w z) ≡ true → v ≡ w
   unfolding declaresIt declares anyOf
-  variable-alone z v e = same-declared v w e
+  variable-alone z v e = one-name v w e
 
   read-uses : uses w (PR (Variable w)) ≡ true
   unfolding uses isName anyOf operands writes targets

@@ -31,8 +31,11 @@ declared-found (Label w) e = (w, sym (or-false (reserved w)) ∙ e, rw (is-true 
 declared-found (Declared w z) e = (w, sym (or-false (reserved w)) ∙ e, rw (is-true (eqList w w) (eqList-refl w)))
 declared-found (Acts s) e = absurd (false≢true e)
 
+pub one-name : (w v : Name) → (eqList w v || false) ≡ true → w ≡ v
+one-name w v e = eqList-eq w v (true-is (eqList w v) (sym (or-false (eqList w v)) ∙ e))
+
 same-reserved : (v w : Name) → (eqList w v || false) ≡ true → reserved w ≡ true → reserved v ≡ true
-same-reserved v w e r = subst (λ (u : Name). reserved u ≡ true) (eqList-eq w v (true-is (eqList w v) (sym (or-false (eqList w v)) ∙ e))) r
+same-reserved v w e r = subst (λ (u : Name). reserved u ≡ true) (one-name w v e) r
 
 declared-reserved : (x : Line) (w : Name) → reserved w ≡ true → declaresIt w x ≡ true → anyOf reserved (declares x) ≡ true
 unfolding anyOf declares declaresIt
@@ -87,17 +90,14 @@ module _ (w : Name) (n : newlyReserved w ≡ true) (text : List ℕ) where
   unfolding newlyReserved paperWord
   no-paper = not-false _ (neither (not (eqb (numbered mnemonics w) 0)) (not (eqb (paperVariable w) 0)) (is-false (paperWord w) (both (reserved w) (not (paperWord w)) (true-is (newlyReserved w) n) .1)) .1)
 
-  same : (v : Name) → T (eqList w v) → w ≡ v
-  same v t = eqList-eq w v t
-
   -- As a label, as a variable, in an operand.
   unknown-label : (v : Name) → T (eqList w v) → T (not (firstMakes makesLabel v (said text)))
   unfolding said
-  unknown-label v t = rw (← same v t, first-none w new-reserved makesLabel (lines text)) tt
+  unknown-label v t = rw (← eqList-eq w v t, first-none w new-reserved makesLabel (lines text)) tt
 
   unknown-name : (v : Name) → T (eqList w v) → T (unknownVariable (said text) v)
   unfolding unknownVariable said
-  unknown-name v t = rw (← same v t, no-paper, first-none w new-reserved makesVariable (lines text)) tt
+  unknown-name v t = rw (← eqList-eq w v t, no-paper, first-none w new-reserved makesVariable (lines text)) tt
 
   unknown-operand : (x : Value Name) → T (isName w x) → T (unknownValue (said text) x)
   unfolding isName unknownValue
