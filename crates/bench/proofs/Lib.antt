@@ -12,4 +12,5 @@ pub mod Listers
 pub mod Takers
 pub mod Promised
 pub mod States
+pub mod OverOrUnder
 pub mod Later

@@ -1,24 +1,35 @@
 -- Document 02: what a request asks of its calls, over any calls, as the demands of Demands.antt.
 -- Assumes nothing.
 use mathlib.Core.Path.{_≡_}
-use mathlib.Core.Bool.{true, false}
+use mathlib.Core.Bool.{true, false, _||_}
 use mathlib.Core.List.{List, [], _∷_, _++_}
 use mathlib.Core.Logic.{_↔_}
 use Prim.Native.Nat.{ℕ, _+_, _≤_, _<_}
-use lib.IntN.{ℤ}
+use lib.Dec.{T}
+use lib.IntN.{ℤ, pos}
 use lib.ListN.{length, take, drop, getD}
 use Rattle.numbers.specs.Bytes.{ascii}
-use Rattle.numbers.specs.Tests.{Lowest, NoRow}
+use Rattle.numbers.specs.Tests.{Lowest, NoRow, between, eqZ}
 use Rattle.program.specs.Names.{Name, twoCharacters, reserved, newlyReserved, freeName}
 use Rattle.program.specs.Variables.{inRange, literals}
-use Rattle.text.specs.Faults.{overlong, faultsOf}
+use Rattle.program.specs.Statements.{Value, Statement, Divided, SetWith, MA, isHold}
+use Rattle.program.specs.Cells.{same, statementOf}
+use Rattle.text.specs.Faults.{overlong, faultsOf, said, howMany, makesCell, makesVariable, placeOf, numberOf}
 use Rattle.refusals.specs.Lines.{DeclaredAt, UsedAt}
-use Rattle.image.specs.Layout.{labelCount, variableCount}
-use Rattle.image.specs.Check.{imageFaults, recordName}
+use Rattle.image.specs.Layout.{cellCount, labelCount, variableCount, cellAt}
+use Rattle.image.specs.Check.{imageFaults, recordName, checked}
+use Rattle.translation.specs.Images.{accepted}
+use Rattle.translation.specs.Places.{lineAt}
+use Rattle.effects.specs.Effects.{read}
+use Rattle.effects.specs.Results.{results, OverOrUnder, Neither}
+use Rattle.machine.specs.declared.Machine.{Machine}
+use Rattle.running.specs.Courses.{cellActs}
+use Rattle.rules.specs.Rules.{Ruled}
 use Rattle.printing.specs.Listing.{listing, plain}
 use Rattle.bench.specs.Translating.{answered}
 use Rattle.bench.specs.Listings.{listAnswered, listedAs, listedInto}
-use Rattle.bench.specs.Demands.{Bytes, Translate, Check, given}
+use Rattle.bench.specs.Following.{lineActs}
+use Rattle.bench.specs.Demands.{Bytes, Translate, Check, Run, given}
 use Rattle.bench.specs.declared.Listed.{Listed}
 
 -- What listing gives: the answer, and the text buffer as the call leaves it. It is given an image and a buffer.
@@ -64,6 +75,38 @@ pub record Request1 (translate : Translate) (list : ListImage) : Type 0 where
 -- The bench's own call, as its promise (Calls.antt) gives it.
 abbrev pub ourList : ListImage
 ourList s buffer = record { answer = listedAs s (length buffer); text = listedInto s buffer }
+
+-- The exact result that a statement comes to on a machine, if it comes to one.
+abbrev pub comesTo : {R : Type 0} → (R → ℕ) → (R → ℕ) → Machine → Statement R → List ℤ
+comesTo place number m a = results place number (m .variables) (m .places .kept) (m .hold) a
+
+-- Turn 3 to 5: a machine at a cell of an image, or at a line of a text, that keeps the rules for a state.
+pub record AtCell (s : List ℕ) (m : Machine) : Type 0 where
+  pub accepted : checked s ≡ 0
+  pub ruled : Ruled (cellCount s) (variableCount s) (λ k. isHold (statementOf (cellAt s k))) m
+  pub here : m .next < cellCount s
+
+pub record AtLine (text : List ℕ) (m : Machine) : Type 0 where
+  pub fine : accepted text ≡ true
+  pub ruled : Ruled (howMany makesCell (said text)) (howMany makesVariable (said text)) (λ k. isHold (lineAt (said text) k)) m
+  pub here : m .next < howMany makesCell (said text)
+
+-- Q-6, over a runner; what a cell does (`cellActs`) and what a line does (`lineActs`) make up the runs of demands 2 and 3.
+pub record Request6 (run : Run) : Type 0 where
+  -- Q-6 2: on every machine a cell is in error 109 exactly if what its statement comes to is below the literal range, in error 101 exactly if it is above;
+  -- and so is a line.
+  pub cell-tells : (s : List ℕ) (m : Machine) → OverOrUnder (comesTo same same m (statementOf (cellAt s (m .next)))) (cellActs s m)
+  pub line-tells : (text : List ℕ) (m : Machine)
+      → OverOrUnder (comesTo (placeOf (said text)) (numberOf (said text)) m (lineAt (said text) (m .next))) (lineActs (said text) m)
+  -- Neither is ever the error of a division or of an MA.
+  pub cell-divides : (s : List ℕ) (m : Machine) → AtCell s m → (v : ℕ) (x y : Value ℕ) → statementOf (cellAt s (m .next)) ≡ SetWith v x Divided y → Neither (cellActs s m)
+  pub cell-moves : (s : List ℕ) (m : Machine) → AtCell s m → (x : Value ℕ) → statementOf (cellAt s (m .next)) ≡ MA x → Neither (cellActs s m)
+  pub line-divides : (text : List ℕ) (m : Machine) → AtLine text m → (v : Name) (x y : Value Name) → lineAt (said text) (m .next) ≡ SetWith v x Divided y
+      → Neither (lineActs (said text) m)
+  pub line-moves : (text : List ℕ) (m : Machine) → AtLine text m → (x : Value Name) → lineAt (said text) (m .next) ≡ MA x → Neither (lineActs (said text) m)
+  -- Turn 11, Turn 21, Q-6 2: in no answer, refused or not, is ER (10) anything but 0, 101 to 106, or 109.
+  pub error-number : (s script : List ℕ) (budget : ℕ) (buffer : List ℕ)
+      → let er = read (run s script budget buffer .answer .state .variables) 10 in T (eqZ er (pos 0) || (between (pos 101) (pos 106) er || eqZ er (pos 109)))
 
 -- No row in front of row k of the faults holds for line l of a text, and none at all for a line before it.
 abbrev pub NoneBefore : List ℕ → ℕ → ℕ → Type 0

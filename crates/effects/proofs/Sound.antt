@@ -12,7 +12,7 @@ use Rattle.program.specs.Variables.{inRange, literals, holdRange, slewRange, ra
 use Rattle.program.specs.Statements.{Value, Literal, Variable, Operator, Statement, Set, SetWith, IC, DC, BR, CL, RT, E, H, Hold, OE, Disarm, MA, MR, SL, PR}
 use Rattle.effects.specs.declared.Effect.{Effect}
 use Rattle.effects.specs.declared.Effect.the-variants.{Fails, Stores, Passes, Goes, Calls, Returns, Ends, Stays, Holds, Arms, Disarms, Moves, Slews, Prints}
-use Rattle.effects.specs.Errors.{resultOutside, divisorZero, valueOutside, noPlaceFree, noPlaceKept, stillMoving}
+use Rattle.effects.specs.Errors.{resultError, divisorZero, valueOutside, noPlaceFree, noPlaceKept, stillMoving}
 use Rattle.effects.specs.Effects.{read, storing, storingResult, operate, zeroDivisor, storingWith, calling, returning, waiting, holding, moving, slewing, value, holds, printing, branching, callingIf, effect}
 
 -- What holds of the machine where a statement has an effect: a place is free for a call, one is kept for a return, a stored value is in its range.
@@ -43,7 +43,7 @@ module _ (vars : List ℤ) (kept : ℕ) where
 
   sound-result : (v : ℕ) (z : ℤ) → Sound vars kept (storingResult vars v z)
   unfolding storingResult
-  sound-result v z = sound-cond (inRange literals z) (storing vars v z) (Fails resultOutside) (λ e. sound-storing v z) tt
+  sound-result v z = sound-cond (inRange literals z) (storing vars v z) (Fails (resultError z)) (λ e. sound-storing v z) tt
 
   sound-with : (v : ℕ) (o : Operator) (x y : ℤ) → Sound vars kept (storingWith vars v o x y)
   unfolding storingWith
@@ -52,8 +52,8 @@ module _ (vars : List ℤ) (kept : ℕ) where
   sound-moving : (target : ℤ) (kind : ℕ) (z : ℤ) → Sound vars kept (moving vars target kind z)
   unfolding moving
   sound-moving target kind z =
-      sound-cond (eqZ (read vars 14) (pos 1)) (Fails stillMoving) (cond (inRange literals target) (Moves target kind z) (Fails resultOutside)) (λ e. tt)
-      (sound-cond (inRange literals target) (Moves target kind z) (Fails resultOutside) (λ e. tt) tt)
+      sound-cond (eqZ (read vars 14) (pos 1)) (Fails stillMoving) (cond (inRange literals target) (Moves target kind z) (Fails (resultError target))) (λ e. tt)
+      (sound-cond (inRange literals target) (Moves target kind z) (Fails (resultError target)) (λ e. tt) tt)
 
   sound-calling : (n : ℕ) → Sound vars kept (calling kept n)
   unfolding calling

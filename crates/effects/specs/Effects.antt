@@ -13,7 +13,7 @@ use Rattle.program.specs.Variables.{inRange, literals, holdRange, slewRange, ra
 use Rattle.program.specs.Statements.{Value, Literal, Variable, Operator, Plus, Minus, Times, Divided, BitAnd, BitOr, BitXor, Comparison, Equal, Unequal, Less, AtMost, Greater, AtLeast, Condition, Always, Compare, Statement, Set, SetWith, IC, DC, BR, CL, RT, E, H, Hold, OE, Disarm, MA, MR, SL, PR}
 use Rattle.effects.specs.declared.Effect.{Effect}
 use Rattle.effects.specs.declared.Effect.the-variants.{Fails, Stores, Passes, Goes, Calls, Returns, Ends, Stays, Holds, Arms, Disarms, Moves, Slews, Prints}
-use Rattle.effects.specs.Errors.{resultOutside, divisorZero, valueOutside, noPlaceFree, noPlaceKept, stillMoving}
+use Rattle.effects.specs.Errors.{resultError, divisorZero, valueOutside, noPlaceFree, noPlaceKept, stillMoving}
 
 -- The value of a variable by its number.
 unfoldable pub read : List ℤ → ℕ → ℤ
@@ -23,9 +23,9 @@ read vars v = getD vars v (pos 0)
 unfoldable pub storing : List ℤ → ℕ → ℤ → Effect
 storing vars v z = cond (inRange (rangeOf v (read vars 8) (read vars 9)) z) (Stores v z) (Fails valueOutside)
 
--- Turn 21 (101), Turn 22: a result outside the literal range comes before the variable's range.
+-- Turn 21 (101), Turn 22, Q-6 2 (109), Q-6 3: a result outside the literal range comes before the variable's range.
 unfoldable pub storingResult : List ℤ → ℕ → ℤ → Effect
-storingResult vars v z = cond (inRange literals z) (storing vars v z) (Fails resultOutside)
+storingResult vars v z = cond (inRange literals z) (storing vars v z) (Fails (resultError z))
 
 -- Text 17, Turn 9, Turn 10: what each operator gives; a quotient is cut toward zero.
 unfoldable pub operate : Operator → ℤ → ℤ → ℤ
@@ -78,11 +78,11 @@ holding hold x =
     cond (ltb 0 hold) (Holds (hold - 1))
     (cond (inRange holdRange x) (Holds (natAbs x - 1)) (Fails valueOutside))
 
--- Turn 19, Turn 21 (106, 101), Turn 22: a move to a target, recorded by this kind and value.
+-- Turn 19, Turn 21 (106, 101), Turn 22, Q-6 2 (109), Q-6 3: a move to a target, recorded by this kind and value.
 unfoldable pub moving : List ℤ → ℤ → ℕ → ℤ → Effect
 moving vars target kind value =
     cond (eqZ (read vars 14) (pos 1)) (Fails stillMoving)
-    (cond (inRange literals target) (Moves target kind value) (Fails resultOutside))
+    (cond (inRange literals target) (Moves target kind value) (Fails (resultError target)))
 
 -- Turn 20, Turn 21 (103).
 unfoldable pub slewing : ℤ → Effect

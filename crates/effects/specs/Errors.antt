@@ -1,14 +1,16 @@
--- Document 01, "One turn": the run errors and their numbers.
+-- Document 01, "One turn", and document 02, "Over or under": the run errors and their numbers.
 -- Assumes nothing.
-use mathlib.Core.Bool.{Bool}
+use mathlib.Core.Bool.{Bool, cond}
 use mathlib.Core.List.{List, [], _∷_}
 use Prim.Native.Nat.{ℕ}
 use lib.IntN.{ℤ, pos}
+use lib.Signed.{ltZ}
 use Rattle.numbers.specs.Tests.{anyOf, eqZ}
+use Rattle.program.specs.Variables.{literals}
 
--- Turn 21: a result outside the literal range.
-abbrev pub resultOutside : ℕ
-resultOutside = 101
+-- Turn 21, Q-6 2: a result above the literal range.
+abbrev pub resultAbove : ℕ
+resultAbove = 101
 
 -- Turn 21: a divisor that is 0.
 abbrev pub divisorZero : ℕ
@@ -30,10 +32,18 @@ noPlaceKept = 105
 abbrev pub stillMoving : ℕ
 stillMoving = 106
 
--- Turn 21: the run errors, in the order of their numbers.
+-- Q-6 2: a result below the literal range.
+abbrev pub resultBelow : ℕ
+resultBelow = 109
+
+-- Turn 21, Q-6 2: the run errors, in the order of their numbers.
 abbrev pub runErrors : List ℕ
-runErrors = resultOutside ∷ divisorZero ∷ valueOutside ∷ noPlaceFree ∷ noPlaceKept ∷ stillMoving ∷ []
+runErrors = resultAbove ∷ divisorZero ∷ valueOutside ∷ noPlaceFree ∷ noPlaceKept ∷ stillMoving ∷ resultBelow ∷ []
 
 -- The number of a run error.
 unfoldable pub isError : ℤ → Bool
 isError z = anyOf (λ (error : ℕ). eqZ z (pos error)) runErrors
+
+-- Turn 21, Q-6 2: which error a result outside the literal range is, by its exact value.
+unfoldable pub resultError : ℤ → ℕ
+resultError z = cond (ltZ z (literals .lowest)) resultBelow resultAbove

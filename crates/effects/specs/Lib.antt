@@ -1,3 +1,4 @@
 pub mod Errors
 pub mod Effects
 pub mod Code
+pub mod Results

@@ -4,6 +4,7 @@ ghost use mathlib.Core.Bool.{cond};
 ghost use lib.Dec.{eqb};
 ghost use lib.IntN.{pos, _+ℤ_, _-ℤ_};
 ghost use Rattle.program.specs.Cells.{noTarget, same, operatorOf, statementOf};
+ghost use Rattle.effects.specs.Errors.{resultError};
 ghost use Rattle.effects.specs.Effects.{read, storing, storingResult, storingWith, calling, returning, waiting, holding, moving, slewing, effect};
 ghost use Rattle.effects.specs.Code.{seen, met, holdingBy, printingBy};
 ghost use Rattle.effects.specs.declared.Effect.the-variants.{Goes, Passes, Arms, Disarms};
@@ -27,6 +28,16 @@ fn storing(vars: &[i32], v: u32, value: i32) -> Effect
     Effect::Fails(Effect::OUT_OF_RANGE)
 }
 
+// The error of a result outside the range of literals: which way it ran out.
+fn result_error(result: i64) -> u8
+    ensures { λ r. ⌜ r ≡ resultError result ⌝ }
+{
+    if result < Variable::literals().lowest {
+        return Effect::TOO_LOW;
+    }
+    Effect::TOO_HIGH
+}
+
 // So does a result, if it is in the range of literals.
 fn storing_result(vars: &[i32], v: u32, result: i64) -> Effect
     ensures { λ r. ⌜ r ≡ storingResult (now (vars .entry)) v result ⌝ }
@@ -34,7 +45,7 @@ fn storing_result(vars: &[i32], v: u32, result: i64) -> Effect
     if Variable::literals().holds(result) {
         return storing(vars, v, result as i32);
     }
-    Effect::Fails(Effect::TOO_BIG)
+    Effect::Fails(result_error(result))
 }
 
 // The result of an operator, if it does not divide by 0.
@@ -104,7 +115,7 @@ fn moving(vars: &[i32], target: i64, kind: u8, value: i32) -> Effect
             value: value,
         };
     }
-    Effect::Fails(Effect::TOO_BIG)
+    Effect::Fails(result_error(target))
 }
 
 // A slew at velocity x.

@@ -8,6 +8,7 @@ pub mod Errors
 pub mod Calls
 pub mod Holding
 pub mod Never
+pub mod Inside
 pub mod Later
 pub mod Scripts
 pub mod Slewing

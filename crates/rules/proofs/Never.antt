@@ -17,7 +17,7 @@ use Rattle.program.specs.Variables.{inRange, literals, rangeOf, readOnly, allIn
 use Rattle.program.specs.Statements.{Operator, Divided, Value, Statement, SetWith, IC, DC, MA, MR, isHold}
 use Rattle.effects.specs.declared.Effect.{Effect}
 use Rattle.effects.specs.declared.Effect.the-variants.{Fails, Stores, Passes, Goes, Calls, Returns, Ends, Stays, Holds, Arms, Disarms, Moves, Slews, Prints}
-use Rattle.effects.specs.Errors.{resultOutside, divisorZero, valueOutside, stillMoving}
+use Rattle.effects.specs.Errors.{resultError, divisorZero, valueOutside, stillMoving}
 use Rattle.effects.specs.Effects.{read, storing, storingResult, operate, zeroDivisor, storingWith, moving, value, effect}
 use Rattle.machine.specs.declared.Machine.{Machine}
 use Rattle.machine.specs.declared.Motion.{Motion}
@@ -142,7 +142,7 @@ ef-kind e m (a-position k t) = rw k (read-other (m .variables) 5 15 (e .value) (
 pub ef-event : (e : Event) (m : Machine) → T (goodEvent e) → read (happens e m .variables) 15 ≡ read (m .variables) 15
 ef-event e m good = ef-kind e m (kinds-of e good)
 
--- Turn 22: the order of errors, 106, 102, 101, 103.
+-- Turn 22, Q-6 3: the order of errors, 106, 102, 101 or 109, 103.
 module _ {R : Type 0} (place number : R → ℕ) (vars : List ℤ) (kept hold : ℕ) where
   abbrev does : Statement R → Effect
   does s = effect place number vars kept hold s
@@ -155,9 +155,9 @@ module _ {R : Type 0} (place number : R → ℕ) (vars : List ℤ) (kept hold : 
   unfolding effect moving eqZ
   moving-first x e = (rw e, rw e)
 
-  -- A target outside the literal range is 101 only then.
+  -- A target outside the literal range is 101 or 109 only then.
   pub target-next : (x : Value R) → eqZ (read vars 14) (pos 1) ≡ false
-      → (inRange literals (worth x) ≡ false → does (MA x) ≡ Fails resultOutside) × (inRange literals (read vars 5 +ℤ worth x) ≡ false → does (MR x) ≡ Fails resultOutside)
+      → (inRange literals (worth x) ≡ false → does (MA x) ≡ Fails (resultError (worth x))) × (inRange literals (read vars 5 +ℤ worth x) ≡ false → does (MR x) ≡ Fails (resultError (read vars 5 +ℤ worth x)))
   unfolding effect moving
   target-next x e = (λ f. rw (e, f), λ f. rw (e, f))
 
@@ -166,16 +166,16 @@ module _ {R : Type 0} (place number : R → ℕ) (vars : List ℤ) (kept hold : 
   unfolding effect storingWith zeroDivisor eqZ
   divisor-first v x y e = rw e
 
-  -- IC and DC past the literal range are 101, whatever the variable's range.
+  -- IC and DC past the literal range are 101 or 109, whatever the variable's range.
   pub count-first : (v : R)
-      → (inRange literals (read vars (number v) +ℤ pos 1) ≡ false → does (IC v) ≡ Fails resultOutside)
-      × (inRange literals (read vars (number v) -ℤ pos 1) ≡ false → does (DC v) ≡ Fails resultOutside)
+      → (inRange literals (read vars (number v) +ℤ pos 1) ≡ false → does (IC v) ≡ Fails (resultError (read vars (number v) +ℤ pos 1)))
+      × (inRange literals (read vars (number v) -ℤ pos 1) ≡ false → does (DC v) ≡ Fails (resultError (read vars (number v) -ℤ pos 1)))
   unfolding effect storingResult
   count-first v = (λ f. rw f, λ f. rw f)
 
-  -- A result outside the literal range is 101, whatever the variable's range; only one inside it can be 103.
+  -- A result outside the literal range is 101 or 109, whatever the variable's range; only one inside it can be 103.
   module _ (v : R) (x y : Value R) (o : Operator) (divides : zeroDivisor o (worth y) ≡ false) where
-    pub literals-next : inRange literals (operate o (worth x) (worth y)) ≡ false → does (SetWith v x o y) ≡ Fails resultOutside
+    pub literals-next : inRange literals (operate o (worth x) (worth y)) ≡ false → does (SetWith v x o y) ≡ Fails (resultError (operate o (worth x) (worth y)))
     unfolding effect storingWith storingResult
     literals-next f = rw (divides, f)
 

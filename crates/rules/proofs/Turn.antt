@@ -18,6 +18,7 @@ use Rattle.effects.specs.declared.Effect.{Effect}
 use Rattle.effects.specs.declared.Effect.the-variants.{Fails, Stores, Passes, Goes, Calls, Returns, Ends, Stays, Holds, Arms, Disarms, Moves, Slews, Prints}
 use Rattle.effects.specs.Errors.{isError}
 use Rattle.effects.specs.Effects.{read, storing, storingResult, operate, zeroDivisor, storingWith, calling, returning, waiting, holding, moving, slewing, printing, branching, callingIf, effect}
+use Rattle.effects.proofs.Results.{result-error}
 use Rattle.machine.specs.declared.Machine.{Machine}
 use Rattle.machine.specs.declared.Motion.{Motion}
 use Rattle.machine.specs.declared.Motion.the-variants.{To}
@@ -69,8 +70,8 @@ module _ (cells variables : ℕ) (holds : ℕ → Bool) (m : Machine) where
         chosen Sound (mayHold (m .variables) v z) (λ t. (p .0, p .1, t, quiet)) (λ t. (tt, quiet))
 
     fine-result : (v : ℕ) (z : ℤ) → T (writable variables v) → Sound (storingResult (m .variables) v z)
-    unfolding storingResult isError anyOf eqZ
-    fine-result v z w = chosen Sound (inRange literals z) (λ t. fine-storing v z w) (λ t. (tt, quiet))
+    unfolding storingResult
+    fine-result v z w = chosen Sound (inRange literals z) (λ t. fine-storing v z w) (λ t. (result-error z, quiet))
 
     fine-with : (v : ℕ) (o : Operator) (x y : ℤ) → T (writable variables v) → Sound (storingWith (m .variables) v o x y)
     unfolding storingWith isError anyOf eqZ
@@ -93,7 +94,7 @@ module _ (cells variables : ℕ) (holds : ℕ → Bool) (m : Machine) where
     unfolding moving isError anyOf eqZ
     fine-moving target kind z =
         chosen Sound (eqZ (read (m .variables) 14) (pos 1)) (λ t. (tt, quiet))
-        (λ t. chosen Sound (inRange literals target) (λ u. (u, quiet)) (λ u. (tt, quiet)))
+        (λ t. chosen Sound (inRange literals target) (λ u. (u, quiet)) (λ u. (result-error target, quiet)))
 
     fine-slewing : (z : ℤ) → Sound (slewing z)
     unfolding slewing isError anyOf eqZ

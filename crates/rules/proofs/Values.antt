@@ -92,7 +92,7 @@ module _ (variables : ℕ) where
 
   module _ (vars : List ℤ) (ok : Values vars) where
     -- The two speeds as they are; after a store to VI; after one to VM.
-    speeds : Speeds (read vars 8) (read vars 9)
+    pub speeds : Speeds (read vars 8) (read vars 9)
     unfolding rangeOf
     speeds =
         let i = both (leZ (pos 1) (read vars 8)) (leZ (read vars 8) (read vars 9 -ℤ pos 1)) (ok .in-range 8 tt (λ e. omega arith)) in

@@ -5,8 +5,8 @@ use mathlib.Core.Bool.{Bool, _&&_, not}
 use Prim.Native.Nat.{ℕ}
 use lib.Dec.{T, leb}
 use Rattle.numbers.specs.Tests.{allOf}
-use Rattle.program.specs.Variables.{present, readOnly}
-use Rattle.program.specs.Statements.{Statement, writes, targets, isHold}
+use Rattle.program.specs.Variables.{inRange, literals, present, readOnly}
+use Rattle.program.specs.Statements.{Value, Literal, Variable, Statement, writes, targets, isHold}
 use Rattle.effects.specs.declared.Effect.{Effect}
 use Rattle.effects.specs.Effects.{effect}
 use Rattle.machine.specs.declared.Machine.{Machine}
@@ -14,6 +14,11 @@ use Rattle.machine.specs.declared.Machine.{Machine}
 -- Variables 1: a variable that a statement may write.
 unfoldable pub writable : ℕ → ℕ → Bool
 writable variables v = present variables v && not (readOnly v)
+
+-- Text 13, Refusals 26: an operand of an accepted program: a literal in its range, or a variable that is there.
+unfoldable pub readable : {R : Type 0} → ℕ → (R → ℕ) → Value R → Bool
+readable variables number (Literal z) = inRange literals z
+readable variables number (Variable v) = present variables (number v)
 
 -- Image 9, Variables 1: each label named has a place that is at most the cell count, each variable written is there and not read-only.
 pub record Good {R : Type 0} (cells variables : ℕ) (place number : R → ℕ) (s : Statement R) : Type 0 where
