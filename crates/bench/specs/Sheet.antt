@@ -156,6 +156,10 @@ trailer1 = 16 ∷ 0 ∷ 0 ∷ 0 ∷ 1 ∷ 0 ∷ 0 ∷ 0 ∷ 0 ∷ 0 ∷ 1 ∷ 0 
 abbrev pub trailer2 : List ℕ
 trailer2 = 32 ∷ 0 ∷ 0 ∷ 0 ∷ 2 ∷ 0 ∷ 0 ∷ 0 ∷ 0 ∷ 0 ∷ 1 ∷ 0 ∷ 48 ∷ 0 ∷ 0 ∷ 0 ∷ []
 
+-- The image of `R1=2147483647^-1`, whose result is -2,147,483,648.
+abbrev pub lowestImage : List ℕ
+lowestImage = 0x02 ∷ 0x01 ∷ 0x07 ∷ 0x05 ∷ 0xFF ∷ 0xFF ∷ 0xFF ∷ 0x7F ∷ 0xFF ∷ 0xFF ∷ 0xFF ∷ 0xFF ∷ 0x00 ∷ 0x00 ∷ 0x00 ∷ 0x00 ∷ trailer1
+
 -- The state after an error in the first of so many cells.
 abbrev pub erred : ℕ → ℕ → State
 erred error cells = next cells (variable 10 (pos error) (variable 15 (pos 1) start))
@@ -173,8 +177,7 @@ sheet =
     ∷ row "e" (ascii "R1=-7/2") (answer 0 0 32)
     (0x02 ∷ 0x01 ∷ 0x04 ∷ 0x05 ∷ 0xF9 ∷ 0xFF ∷ 0xFF ∷ 0xFF ∷ 0x02 ∷ 0x00 ∷ 0x00 ∷ 0x00 ∷ 0x00 ∷ 0x00 ∷ 0x00 ∷ 0x00 ∷ trailer1)
     (trial [] 5 1 1 0 [] (next 1 (variable 1 (negsuc 2) start)) ∷ [])
-    ∷ row "f" (ascii "R1=2147483647^-1") (answer 0 0 32)
-    (0x02 ∷ 0x01 ∷ 0x07 ∷ 0x05 ∷ 0xFF ∷ 0xFF ∷ 0xFF ∷ 0x7F ∷ 0xFF ∷ 0xFF ∷ 0xFF ∷ 0xFF ∷ 0x00 ∷ 0x00 ∷ 0x00 ∷ 0x00 ∷ trailer1)
+    ∷ row "f" (ascii "R1=2147483647^-1") (answer 0 0 32) lowestImage
     (trial [] 5 1 1 1 (0 ∷ 0 ∷ 0 ∷ 0 ∷ 6 ∷ 0 ∷ 0 ∷ 0 ∷ 109 ∷ 0 ∷ 0 ∷ 0 ∷ []) (erred 109 1) ∷ [])
     ∷ row "g" (ascii "R1=2147483647\nIC R1") (answer 0 0 48)
     (padded (0x01 ∷ 0x01 ∷ 0x00 ∷ 0x01 ∷ 0xFF ∷ 0xFF ∷ 0xFF ∷ 0x7F ∷ []) ++ (padded (0x03 ∷ 0x01 ∷ []) ++ trailer2))
