@@ -104,7 +104,7 @@ pub record Request6 (run : Run) : Type 0 where
   pub line-divides : (text : List ℕ) (m : Machine) → AtLine text m → (v : Name) (x y : Value Name) → lineAt (said text) (m .next) ≡ SetWith v x Divided y
       → Neither (lineActs (said text) m)
   pub line-moves : (text : List ℕ) (m : Machine) → AtLine text m → (x : Value Name) → lineAt (said text) (m .next) ≡ MA x → Neither (lineActs (said text) m)
-  -- Turn 11, Turn 21, Q-6 2: in no answer, refused or not, is ER (10) anything but 0, 101 to 106, or 109.
+  -- Turn 5, Q-6 2: in no answer, refused or not, is ER (10) anything but 0, 101 to 106, or 109.
   pub error-number : (s script : List ℕ) (budget : ℕ) (buffer : List ℕ)
       → let er = read (run s script budget buffer .answer .state .variables) 10 in T (eqZ er (pos 0) || (between (pos 101) (pos 106) er || eqZ er (pos 109)))
 

@@ -22,7 +22,7 @@ use Rattle.effects.specs.Errors.{isError, resultError}
 use Rattle.effects.specs.Effects.{read, storing, storingResult, operate, zeroDivisor, storingWith, calling, returning, waiting, holding, moving, slewing, value, holds, printing, branching, callingIf, effect}
 use Rattle.effects.specs.Results.{below, above, bitwise, results, OverOrUnder, Neither}
 
--- What is in the literal range is not below it and not above it; nothing is both; what is in neither way outside is in it.
+-- What is in the literal range is not below it and not above it; nothing is both; what is outside it and not below it is above it.
 inside-not-below : (z : ℤ) → T (inRange literals z) → T (below z) → ⊥
 inside-not-below z i b = clashℤ (ltZ-yes {a = z} {b = negsuc 2147483646} b) (leZ-yes (both (leZ (negsuc 2147483646) z) (leZ z (pos 2147483647)) i .0))
 

@@ -40,7 +40,7 @@ resultBelow = 109
 abbrev pub runErrors : List ℕ
 runErrors = resultAbove ∷ divisorZero ∷ valueOutside ∷ noPlaceFree ∷ noPlaceKept ∷ stillMoving ∷ resultBelow ∷ []
 
--- The number of a run error.
+-- Turn 5, Q-6 2: the number of a run error.
 unfoldable pub isError : ℤ → Bool
 isError z = anyOf (λ (error : ℕ). eqZ z (pos error)) runErrors
 
