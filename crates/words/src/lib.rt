@@ -82,9 +82,9 @@ const MOST_SOUGHT: u32 = 16;
 
 // The table stands in five pieces, since a long one is dear to prove: lines for the tool, numbers of answers, hints, wrong uses, and the text
 // on the tool's use, which is no part of the lines. What is sought most often stands first.
-const TOOL_SIZE: usize = 2128;
+const TOOL_SIZE: usize = 2167;
 
-const ANSWER_SIZE: usize = 1578;
+const ANSWER_SIZE: usize = 1604;
 
 const HINT_SIZE: usize = 2568;
 
@@ -102,7 +102,7 @@ const FIRST_COMMAND: usize = HELP + 68;
 pub const SIZE: usize = HELP + HELP_SIZE;
 
 // The number of lines, and the bytes of the longest with its end.
-const LINE_COUNT: usize = 184;
+const LINE_COUNT: usize = 186;
 
 pub const LONGEST: usize = 76;
 
@@ -182,6 +182,7 @@ such 103: O1=2, as an output is 0 or 1
 such 104: LB AA, CL AA: the ninth call finds no place
 such 105: RT, and no CL before it
 such 106: MR 100 twice, and no H between them
+such 109: DC R1, and R1 is -2147483647
 ";
 
 const ANSWERS: [u8; ANSWER_SIZE] = *b"refusal 1: the text has more than 16,384 bytes
@@ -204,12 +205,13 @@ refusal 32: events that are not 12 bytes each, or more than 4,096
 refusal 33: a bad event, or a turn below that of the event before
 refusal 34: more than 4,096 turns
 refusal 35: the record buffer has fewer than 12 bytes for each turn
-error 101: the result is outside -2,147,483,647 to 2,147,483,647
+error 101: the result is above 2,147,483,647
 error 102: division by zero
 error 103: the value is outside the range of the variable, of H or of SL
 error 104: a call, and all eight return places are in use
 error 105: a return, and no place to return to
 error 106: a move while the axis is moving
+error 109: the result is below -2,147,483,647
 end 1: past the last statement
 end 2: stopped, no return place was free for the handler
 end 3: every turn that was asked for is used
