@@ -556,9 +556,12 @@ static struct wrote fail(struct state *m, u8 error, int *stops) {
     return w;
 }
 
+/* The error of a result: 101 above the literal range, 109 below it, 0 inside. */
+static u8 result_error(i64 x) { return HIGHEST < x ? 101 : x < -(i64)HIGHEST ? 109 : 0; }
+
 static struct wrote store(struct state *m, u32 v, i64 x, int *stops) {
     struct wrote w = { 0 };
-    if (x < -(i64)HIGHEST || HIGHEST < x) return fail(m, 101, stops);
+    if (result_error(x)) return fail(m, result_error(x), stops);
     if (!in_range(m->variables, v, x)) return fail(m, 103, stops);
     m->variables[v] = x;
     if (v == ER) m->variables[EF] = 0;
@@ -594,7 +597,7 @@ static int holds(u8 comparison, i32 x, i32 y) {
 static struct wrote move(struct state *m, i64 target, u8 kind, i32 x, int *stops) {
     struct wrote w = { kind, 0, x };
     if (m->variables[MV]) return fail(m, 106, stops);
-    if (target < -(i64)HIGHEST || HIGHEST < target) return fail(m, 101, stops);
+    if (result_error(target)) return fail(m, result_error(target), stops);
     m->motion = 1;
     m->value = target;
     m->variables[MV] = 1;
