@@ -38,7 +38,7 @@ fn result_error(result: i64) -> u8
     Effect::TOO_HIGH
 }
 
-// So does a result, if it is in the range of literals.
+// A result goes there too, if it is in the range of literals.
 fn storing_result(vars: &[i32], v: u32, result: i64) -> Effect
     ensures { λ r. ⌜ r ≡ storingResult (now (vars .entry)) v result ⌝ }
 {

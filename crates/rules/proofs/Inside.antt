@@ -6,8 +6,8 @@ use mathlib.Core.Logic.{⊎-elim}
 use Prim.Native.Nat.{ℕ, _+_, _≤_}
 use native.Mathlib.Omega.{arith}
 use lib.Dec.{T, eqb, leb, ltb, leb→le, le→leb, eqb→eq}
-use lib.IntN.{ℤ, pos, negsuc, natAbs, _+ℤ_, _-ℤ_}
-use lib.Signed.{leZ, quotZ}
+use lib.IntN.{ℤ, pos, negsuc, natAbs}
+use lib.Signed.{quotZ}
 use Rattle.numbers.specs.Tests.{anyOf, between, eqZ}
 use Rattle.numbers.proofs.Kit.{abs-quot}
 use Rattle.numbers.proofs.Truth.{true-is, both, both-of, either, chosen, if-same}

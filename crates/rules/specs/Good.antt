@@ -1,4 +1,5 @@
 -- Document 01, "One turn": what the rules for a state ask of a statement. What it reads may be anything: each effect tests what it stores.
+-- Beside it, what a statement of an accepted program reads.
 -- Assumes nothing.
 use mathlib.Core.Path.{_≡_}
 use mathlib.Core.Bool.{Bool, _&&_, not}
