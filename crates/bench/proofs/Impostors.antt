@@ -5,7 +5,6 @@ use mathlib.Core.Bool.{true, false}
 use mathlib.Core.List.{List, [], _∷_, _++_, flatMap}
 use Prim.Native.Nat.{ℕ, _-_, _≤_}
 use native.Mathlib.Omega.{arith}
-use lib.IntN.{pos, natAbs}
 use lib.ListN.{length, take, drop, getD, set, replicate}
 use lib.Seq.{take-at}
 use Rattle.numbers.specs.Bits as Bits
@@ -40,7 +39,7 @@ use Rattle.bench.specs.declared.Checked.{Checked}
 use Rattle.bench.specs.declared.State.{State}
 use Rattle.bench.specs.declared.Ran.{Ran}
 use Rattle.bench.specs.Demands.{Translation, Translate, Check, Outcome, Run, given, Demand2, Demand3, ourRun}
-use Rattle.bench.specs.Sheet.{fresh, feeder, feederImage, feederRecords, twoArrivals, trailer0, lowestImage, sheet-holds}
+use Rattle.bench.specs.Sheet.{fresh, feeder, feederImage, feederRecords, twoArrivals, trailer0, sheet-holds}
 use Rattle.bench.proofs.Demands.{sound-accepted, text-refused, translated-fits, into-fits, run-accepted}
 
 -- What a row of the sheet says of its text: it is accepted, and this is its image.
@@ -296,10 +295,3 @@ other-turns a after other r = other (ap (λ (x : Ran). x .turns) (r .answers ∙
 
 pub byte-behind : (a : Ran) → Runs feederImage twoArrivals 20 (fresh 240) a (feederRecords ++ (fresh 203 ++ (0 ∷ []))) → ⊥
 byte-behind a r = let z : _≡_ {A = ℕ} 0 170 = ap (λ (b : List ℕ). getD b 239 0) (r .leaves ∙ sheet-holds .1 .0 .2 .0 .1) in omega arith
-
--- Q-6 3: row f with 101 in ER, which was right before the request.
-pub above-for-below : (a : Ran) (after : List ℕ) → getD (a .state .variables) 10 (pos 0) ≡ pos 101 → Runs lowestImage [] 5 (fresh 60) a after → ⊥
-above-for-below a after old r =
-    let z : pos 101 ≡ pos 109 = sym old ∙ ap (λ (x : Ran). getD (x .state .variables) 10 (pos 0)) (r .answers ∙ sheet-holds .1 .1 .1 .1 .1 .0 .2 .0 .0) in
-    let n : _≡_ {A = ℕ} 101 109 = ap natAbs z in
-    omega arith

@@ -1,11 +1,12 @@
--- Q-6: what the request asks holds of every runner that meets demands 1 and 2, the bench's own among them.
+-- Q-6: what the request asks holds of all calls that meet the demands, the bench's own among them; and of no runner that tells 101 for what is below.
 -- Assumes nothing.
-use mathlib.Core.Path.{_≡_, sym, subst}
+use mathlib.Core.Path.{_≡_, sym, ap, _∙_, subst}
 use mathlib.Core.Bool.{Bool, _||_}
-use mathlib.Core.List.{List}
+use mathlib.Core.List.{List, []}
 use Prim.Native.Nat.{ℕ}
+use native.Mathlib.Omega.{arith}
 use lib.Dec.{T}
-use lib.IntN.{ℤ, pos}
+use lib.IntN.{ℤ, pos, natAbs}
 use lib.ListN.{length}
 use Rattle.numbers.specs.Tests.{between, eqZ}
 use Rattle.numbers.proofs.Truth.{true-is, if-same}
@@ -36,9 +37,10 @@ use Rattle.bench.specs.declared.State.{State}
 use Rattle.bench.specs.Answers.{stateOf, noState, refusedAs}
 use Rattle.bench.specs.Running.{ran}
 use Rattle.bench.specs.Following.{lineActs}
-use Rattle.bench.specs.Demands.{Translate, Check, Outcome, Run, Demand1, Demand2, ourTranslate, ourCheck, ourRun}
+use Rattle.bench.specs.Demands.{Translate, Check, Outcome, Run, Demand1, Demand2, Demand3, ourTranslate, ourCheck, ourRun}
+use Rattle.bench.specs.Sheet.{fresh, lowestImage, sheet-holds}
 use Rattle.bench.specs.Requests.{AtCell, AtLine, Request6}
-use Rattle.bench.proofs.Demands.{run-refused, demand1, demand2}
+use Rattle.bench.proofs.Demands.{run-refused, demand1, demand2, demand3}
 use Rattle.bench.proofs.Decided.{run-decided}
 use Rattle.bench.proofs.States.{answer-ruled}
 
@@ -110,10 +112,13 @@ answer-told s script budget buffer =
     (λ e. let r = answer-ruled s script budget buffer e in subst (λ (a : State). T (told (read (a .variables) 10))) (sym (r .2)) (number-told (read (r .0 .variables) 10) (r .1 .error)))
     (λ n. subst (λ (a : Ran). T (told (errorIn a))) (sym (run-refused s script budget buffer .rest-refused n)) tt)
 
-pub request6 : (translate : Translate) (check : Check) (run : Run) → Demand1 translate check run → Demand2 translate check run → Request6 run
+pub request6 : (translate : Translate) (check : Check) (run : Run) → Demand1 translate check run → Demand2 translate check run → Demand3 translate run → Request6 translate check run
 unfolding cellActs lineActs
-request6 translate check run one two =
+request6 translate check run one two three =
     record {
+      demand-1 = one;
+      demand-2 = two;
+      demand-3 = three;
       cell-tells = λ s m. over-or-under (m .variables) same same (m .places .kept) (m .hold) (statementOf (cellAt s (m .next)));
       line-tells = λ text m. over-or-under (m .variables) (placeOf (said text)) (numberOf (said text)) (m .places .kept) (m .hold) (lineAt (said text) (m .next));
       cell-divides = cell-division;
@@ -124,5 +129,14 @@ request6 translate check run one two =
           subst (λ (o : Outcome). T (told (errorIn (o .answer)))) (sym (run-decided translate check run one two s script budget buffer)) (answer-told s script budget buffer);
     }
 
-pub request6-ours : Request6 ourRun
-request6-ours = request6 ourTranslate ourCheck ourRun demand1 demand2
+pub request6-ours : Request6 ourTranslate ourCheck ourRun
+request6-ours = request6 ourTranslate ourCheck ourRun demand1 demand2 demand3
+
+-- Q-6 3: whatever else the calls do, a runner that answers row f with 101 in ER does not do what the request asks.
+pub over-for-under : (translate : Translate) (check : Check) (run : Run) → errorIn (run lowestImage [] 5 (fresh 60) .answer) ≡ pos 101 → Request6 translate check run → ⊥
+unfolding read
+over-for-under translate check run old q =
+    let r = ap (λ (o : Outcome). errorIn (o .answer)) (run-decided translate check run (q .demand-1) (q .demand-2) lowestImage [] 5 (fresh 60)) in
+    let z : pos 101 ≡ pos 109 = sym old ∙ r ∙ ap errorIn (sheet-holds .1 .1 .1 .1 .1 .0 .2 .0 .0) in
+    let n : _≡_ {A = ℕ} 101 109 = ap natAbs z in
+    omega arith

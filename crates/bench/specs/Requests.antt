@@ -29,7 +29,7 @@ use Rattle.printing.specs.Listing.{listing, plain}
 use Rattle.bench.specs.Translating.{answered}
 use Rattle.bench.specs.Listings.{listAnswered, listedAs, listedInto}
 use Rattle.bench.specs.Following.{lineActs}
-use Rattle.bench.specs.Demands.{Bytes, Translate, Check, Run, given}
+use Rattle.bench.specs.Demands.{Bytes, Translate, Check, Run, Demand1, Demand2, Demand3, given}
 use Rattle.bench.specs.declared.Listed.{Listed}
 
 -- What listing gives: the answer, and the text buffer as the call leaves it. It is given an image and a buffer.
@@ -91,8 +91,12 @@ pub record AtLine (text : List ℕ) (m : Machine) : Type 0 where
   pub ruled : Ruled (howMany makesCell (said text)) (howMany makesVariable (said text)) (λ k. isHold (lineAt (said text) k)) m
   pub here : m .next < howMany makesCell (said text)
 
--- Q-6, over a runner; what a cell does (`cellActs`) and what a line does (`lineActs`) make up the runs of demands 2 and 3.
-pub record Request6 (run : Run) : Type 0 where
+-- Q-6, over a translator, a checker and a runner. The request changes what a statement does, and no call: so it asks for the demands, whose runs are made up of
+-- what a cell does (`cellActs`) and what a line does (`lineActs`), and says what these two do.
+pub record Request6 (translate : Translate) (check : Check) (run : Run) : Type 0 where
+  pub demand-1 : Demand1 translate check run
+  pub demand-2 : Demand2 translate check run
+  pub demand-3 : Demand3 translate run
   -- Q-6 2: on every machine a cell is in error 109 exactly if what its statement comes to is below the literal range, in error 101 exactly if it is above;
   -- and so is a line.
   pub cell-tells : (s : List ℕ) (m : Machine) → OverOrUnder (comesTo same same m (statementOf (cellAt s (m .next)))) (cellActs s m)

@@ -34,7 +34,7 @@ distance : (z : ℤ) → T (inRange literals z) → natAbs z ≤ 2147483647
 distance (pos n) t = leb→le n 2147483647 t
 distance (negsuc n) t = let h = leb→le n 2147483646 (both (leb n 2147483646) true t .0) in omega arith
 
--- What holds of the ranges of variables: those of VI and VM go by each other, and ER has the number of an error.
+-- Each kind of range that a variable has: from a number on up to a higher one; VI and VM, which go by each other; the number of an error.
 natural : (lo hi : ℕ) (z : ℤ) → hi ≤ 2147483647 → T (between (pos lo) (pos hi) z) → T (inRange literals z)
 natural lo hi (pos n) h t = let k = leb→le n hi (both (leb lo n) (leb n hi) t .1) in le→leb n 2147483647 (omega arith)
 natural lo hi (negsuc n) h t = absurd t
