@@ -1,4 +1,4 @@
 pub mod Errors
 pub mod Effects
-pub mod Code
 pub mod Results
+pub mod Deeds

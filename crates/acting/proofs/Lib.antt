@@ -1,0 +1,3 @@
+pub mod Kit
+pub mod Statements
+pub mod Reading
