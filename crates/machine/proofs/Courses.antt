@@ -4,7 +4,7 @@ use mathlib.Core.Path.{_≡_, refl, ap, _∙_}
 use mathlib.Core.Bool.{Bool, true, false, cond}
 use mathlib.Core.List.{List}
 use Prim.Native.Nat.{ℕ, suc, _<_}
-use Rattle.effects.specs.declared.Effect.{Effect}
+use Rattle.effects.specs.Deeds.{Deed}
 use Rattle.machine.specs.declared.Machine.{Machine}
 use Rattle.events.specs.declared.Event.{Event}
 use Rattle.machine.specs.Turn.{turn}
@@ -13,7 +13,7 @@ use Rattle.machine.specs.Run.{PlainTrace, ends, plain, courseOf, reach, 
 use Rattle.machine.proofs.Traces.{ended, after, course-ends, course-before, trace-turn, step}
 
 -- Before the end and with turns left, the events of the turn act, then just one statement; the run goes on from there, or stops.
-module _ (act : Machine → Effect) (cells left t : ℕ) (es : List Event) (m : Machine) where
+module _ (act : Machine → Deed) (cells left t : ℕ) (es : List Event) (m : Machine) where
   abbrev there : Machine
   there = reach t es m .machine
 

@@ -17,12 +17,13 @@ use Rattle.program.proofs.Ranges.{input-range}
 use Rattle.effects.specs.declared.Effect.{Effect}
 use Rattle.effects.specs.declared.Effect.the-variants.{Fails, Stores, Passes, Goes, Calls, Returns, Ends, Stays, Holds, Arms, Disarms, Moves, Slews, Prints}
 use Rattle.effects.specs.Effects.{read, effect}
+use Rattle.effects.specs.Deeds.{deed, clears}
 use Rattle.effects.proofs.Sound.{Sound, sound}
 use Rattle.machine.specs.declared.Machine.{Machine}
 use Rattle.machine.specs.declared.Motion.{Motion}
 use Rattle.machine.specs.declared.Motion.the-variants.{Still, To, Slewing}
 use Rattle.events.specs.declared.Event.{Event}
-use Rattle.machine.specs.Turn.{withVariables, startMachine, stored, movingBit, inMotion, slew, called, returned, held, turn}
+use Rattle.machine.specs.Turn.{withVariables, startMachine, stored, movingBit, inMotion, slew, called, returned, held, applied, clearing, turn}
 use Rattle.events.specs.Events.{goodEvent}
 use Rattle.machine.specs.Happens.{input, arrivedBy, happens}
 use Rattle.machine.specs.Code.{Bit, Inputs, moving, Arrived, Happened}
@@ -80,8 +81,8 @@ module _ (m : Machine) (h : Inputs (m .variables)) where
   unfolding inMotion
   inputs-moving motion = inputs-below 14 (movingBit motion) (omega arith) h
 
-  inputs-effect : (cells : ℕ) (e : Effect) → Sound (m .variables) (m .places .kept) e → Inputs (turn cells e m .machine .variables)
-  unfolding turn called returned
+  inputs-effect : (cells : ℕ) (e : Effect) → Sound (m .variables) (m .places .kept) e → Inputs (applied cells e m .machine .variables)
+  unfolding applied called returned
   inputs-effect cells (Fails error) s = rw (failed-variables m error) (inputs-below 15 (pos 1) (omega arith) (inputs-below 10 (pos error) (omega arith) h))
   inputs-effect cells (Stores v z) s = inputs-stored (m .variables) h v z s
   inputs-effect cells Passes s = h
@@ -97,10 +98,18 @@ module _ (m : Machine) (h : Inputs (m .variables)) where
   inputs-effect cells (Slews z) s = inputs-moving (slew z)
   inputs-effect cells (Prints v z) s = h
 
+  inputs-cleared : (t : Bool) {vars : List ℤ} → Inputs vars → Inputs (clearing t vars)
+  unfolding clearing
+  inputs-cleared true i = inputs-below 15 (pos 0) (omega arith) i
+  inputs-cleared false i = i
+
   -- After a turn, whatever the statement.
   pub inputs-turn : {R : Type 0} (place number : R → ℕ) (cells : ℕ) (s : Statement R)
-      → Inputs (turn cells (effect place number (m .variables) (m .places .kept) (m .hold) s) m .machine .variables)
-  inputs-turn place number cells s = inputs-effect cells (effect place number (m .variables) (m .places .kept) (m .hold) s) (sound (m .variables) (m .places .kept) place number (m .hold) s)
+      → Inputs (turn cells (deed place number (m .variables) (m .places .kept) (m .hold) s) m .machine .variables)
+  unfolding turn
+  inputs-turn place number cells s =
+      inputs-cleared (clears (deed place number (m .variables) (m .places .kept) (m .hold) s))
+      (inputs-effect cells (effect place number (m .variables) (m .places .kept) (m .hold) s) (sound (m .variables) (m .places .kept) place number (m .hold) s))
 
 -- A good event of kind 1 is for an input, with 0 or 1.
 by-kind : (zeros k : ℕ) (a b c : Bool) → k ≡ 1 → (eqb zeros 0 && ((eqb k 1 && a) || ((eqb k 2 && b) || (eqb k 3 && c)))) ≡ true → a ≡ true

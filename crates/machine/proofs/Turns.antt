@@ -1,6 +1,6 @@
 -- The machine and its variables: a store past the last variable; what the effect of a statement tells of the machine that it is applied to.
 -- Assumes nothing.
-use mathlib.Core.Path.{_≡_, refl, sym, subst, _∙_}
+use mathlib.Core.Path.{_≡_, refl, sym, ap, subst, _∙_}
 use mathlib.Core.Bool.{Bool, true, false, cond, not, _&&_, and-eq-true-iff}
 use mathlib.Core.List.{List, [], _∷_}
 use Prim.Native.Nat.{ℕ, _-_, _≤_}
@@ -8,8 +8,8 @@ use native.Mathlib.Omega.{arith}
 use borrow.Author.Tests.{ne-eqb, leb-true, le-leb, lt-leb, ltb-true, ltb-false}
 use lib.Dec.{eqb, leb, ltb}
 use lib.IntN.{ℤ, pos}
-use lib.ListN.{length, set}
-use lib.Seq.{set-out}
+use lib.ListN.{length, set, getD}
+use lib.Seq.{set-out, set-getD}
 use Rattle.program.specs.declared.Cell.{Cell}
 use Rattle.program.specs.Cells.{same, statementOf}
 use Rattle.program.specs.Statements.{Statement}
@@ -19,13 +19,15 @@ use Rattle.effects.specs.declared.Effect.{Effect}
 use Rattle.effects.specs.declared.Effect.the-variants.{Fails, Stores, Passes, Goes, Calls, Returns, Ends, Stays, Holds, Arms, Disarms, Moves, Slews, Prints}
 use Rattle.effects.proofs.Effect.{the-type}
 use Rattle.effects.specs.Effects.{effect}
+use Rattle.acting.specs.Code.{clearsBy}
+use Rattle.acting.proofs.Reading.{faultless}
 use Rattle.effects.proofs.Sound.{Sound, sound}
 use Rattle.machine.specs.declared.Machine.{Machine}
 use Rattle.machine.specs.declared.Control.{Control}
 use Rattle.machine.specs.declared.Motion.{Motion}
 use Rattle.events.specs.declared.Record.{Record}
 use Rattle.machine.specs.declared.Turned.{Turned}
-use Rattle.machine.specs.Turn.{noHandler, withHandler, onward, nothing, recorded, turned, stored, called, flagged, failed, turn}
+use Rattle.machine.specs.Turn.{noHandler, withVariables, withHandler, onward, nothing, recorded, turned, stored, called, flagged, failed, applied, clearing, turn}
 use Rattle.machine.specs.Code.{Acted, Ready, acts, moving, changed, joined, whole, turnBy}
 
 -- A store past the last variable changes nothing.
@@ -33,11 +35,17 @@ pub stored-out : (vars : List ℤ) (v : ℕ) (z : ℤ) → length vars ≡ 64 �
 unfolding stored
 stored-out vars v z l h = rw (ne-eqb v 10 (λ e. omega arith), set-out vars v z (omega arith))
 
+-- EF (15) at 0 need not be cleared.
+pub cleared-already : (t : Bool) (vars : List ℤ) → getD vars 15 (pos 0) ≡ pos 0 → vars ≡ clearing t vars
+unfolding clearing
+cleared-already true vars e = sym (set-getD vars 15 (pos 0)) ∙ ap (set vars 15) e
+cleared-already false vars e = refl
+
 -- An output's number.
 pub output : (v : ℕ) → (leb 11 v && leb v 13) ≡ true → 11 ≤ v
 output v h = leb-true 11 v (and-eq-true-iff (leb 11 v) (leb v 13) .0 h .0)
 
--- Effects by their tags: those that leave the variables as they are, those that only go on to the following cell, those that record nothing, those but an error.
+-- Effects by their tags: those that leave the variables as they are, those that only go on to the following cell, those that record nothing.
 abbrev others : List ℕ
 others = 2 ∷ 3 ∷ 4 ∷ 5 ∷ 6 ∷ 7 ∷ 8 ∷ 9 ∷ 10 ∷ 13 ∷ []
 
@@ -62,8 +70,8 @@ abbrev going : List ℕ
 going = 1 ∷ 2 ∷ 13 ∷ []
 
 pub goes-onward : (does : Effect) (cells : ℕ) (vars : List ℤ) (c r : Control) → OneOf going (tagOf the-type does) → joined (changed does vars) r ≡ onward (joined (changed does vars) c)
-    → joined (changed does vars) r ≡ turn cells does (joined vars c) .machine
-unfolding changed turn
+    → joined (changed does vars) r ≡ applied cells does (joined vars c) .machine
+unfolding changed applied
 goes-onward (Fails error) cells vars c r h e = absurd (miss going 0 tt h)
 goes-onward (Stores v z) cells vars c r h e = e
 goes-onward Passes cells vars c r h e = e
@@ -82,8 +90,8 @@ goes-onward (Prints v z) cells vars c r h e = e
 abbrev silent : List ℕ
 silent = 2 ∷ 3 ∷ 4 ∷ 5 ∷ 6 ∷ 7 ∷ 8 ∷ 9 ∷ 10 ∷ []
 
-pub records-nothing : (does : Effect) (cells : ℕ) (m : Machine) → OneOf silent (tagOf the-type does) → nothing ≡ turn cells does m .wrote
-unfolding turn
+pub records-nothing : (does : Effect) (cells : ℕ) (m : Machine) → OneOf silent (tagOf the-type does) → nothing ≡ applied cells does m .wrote
+unfolding applied
 records-nothing (Fails error) cells m h = absurd (miss silent 0 tt h)
 records-nothing (Stores v z) cells m h = absurd (miss silent 1 tt h)
 records-nothing Passes cells m h = refl
@@ -99,11 +107,8 @@ records-nothing (Moves target kind z) cells m h = absurd (miss silent 11 tt h)
 records-nothing (Slews z) cells m h = absurd (miss silent 12 tt h)
 records-nothing (Prints v z) cells m h = absurd (miss silent 13 tt h)
 
-abbrev faultless : List ℕ
-faultless = 1 ∷ 2 ∷ 3 ∷ 4 ∷ 5 ∷ 6 ∷ 7 ∷ 8 ∷ 9 ∷ 10 ∷ 11 ∷ 12 ∷ 13 ∷ []
-
-pub runs-on : (does : Effect) (cells : ℕ) (m : Machine) → OneOf faultless (tagOf the-type does) → false ≡ turn cells does m .stops
-unfolding turn
+pub runs-on : (does : Effect) (cells : ℕ) (m : Machine) → OneOf faultless (tagOf the-type does) → false ≡ applied cells does m .stops
+unfolding applied
 runs-on (Fails error) cells m h = absurd (miss faultless 0 tt h)
 runs-on (Stores v z) cells m h = refl
 runs-on Passes cells m h = refl
@@ -121,7 +126,7 @@ runs-on (Prints v z) cells m h = refl
 
 -- What comes of an effect, by what it turns out to be.
 module _ (c : Control) (cells : ℕ) {r : Control} {does e : Effect} (q : does ≡ e) where
-  pub after-by : ((vars : List ℤ) → joined (changed e vars) r ≡ turn cells e (joined vars c) .machine) → (vars : List ℤ) → joined (changed does vars) r ≡ turn cells does (joined vars c) .machine
+  pub after-by : ((vars : List ℤ) → joined (changed e vars) r ≡ applied cells e (joined vars c) .machine) → (vars : List ℤ) → joined (changed does vars) r ≡ applied cells does (joined vars c) .machine
   after-by f vars = rw q (f vars)
 
 -- Turn 23, Turn 25: an error's record, and when it stops the run.
@@ -155,14 +160,14 @@ ready vars kept hold s {does} p =
 
 -- A turn: the events have acted, and the effect of the statement comes to the variables and to all else.
 pub turned-by : (s : List ℕ) (first last cells : ℕ) (cell : Cell) (m : Machine) (ctl : Control) {vars vars′ : List ℤ} {motion : Motion} {does : Effect} {c : Control} {w : Record} {stops : Bool} {d : Turned}
-    → Acted s first last (m .variables) (m .motion) vars motion → does ≡ effect same same vars (m .places .kept) (m .hold) (statementOf cell) → vars′ ≡ changed does vars
+    → Acted s first last (m .variables) (m .motion) vars motion → does ≡ effect same same vars (m .places .kept) (m .hold) (statementOf cell) → vars′ ≡ clearing (clearsBy cell (ctl .hold) does) (changed does vars)
     → joined vars ctl ≡ moving vars motion m
-    → ((vs : List ℤ) → joined (changed does vs) c ≡ turn cells does (joined vs ctl) .machine)
-    → ((n : ℕ) (x : Machine) → w ≡ turn n does x .wrote) → ((n : ℕ) (vs : List ℤ) → stops ≡ turn n does (joined vs ctl) .stops) → d ≡ whole vars′ c w stops
+    → ((vs : List ℤ) → joined (changed does vs) c ≡ applied cells does (joined vs ctl) .machine)
+    → ((n : ℕ) (x : Machine) → w ≡ applied n does x .wrote) → ((n : ℕ) (vs : List ℤ) → stops ≡ applied n does (joined vs ctl) .stops) → d ≡ whole vars′ c w stops
     → d ≡ turnBy cells cell (acts s first (last - first) m)
-unfolding turnBy
+unfolding turnBy turn
 turned-by s first last cells cell m ctl {vars} {does = does} a ed ev ej ec ew es ew′ =
-    rw (← a .each m, ← ed, ← ej) (ew′ ∙ same-parts (rw ev (ec vars)) (ew cells (joined vars ctl)) (es cells vars))
+    rw (← a .each m, ← ed, ← ej) (ew′ ∙ same-parts (rw ev (ap (λ (x : Machine). withVariables (clearing (clearsBy cell (ctl .hold) does) (x .variables)) x) (ec vars))) (ew cells (joined vars ctl)) (es cells vars))
   where
     same-parts : {m′ : Machine} {w : Record} {b : Bool} {t : Turned} → m′ ≡ t .machine → w ≡ t .wrote → b ≡ t .stops → record { machine = m′; wrote = w; stops = b } ≡ t
     same-parts p q r = rw (p, q, r)

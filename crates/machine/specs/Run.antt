@@ -5,7 +5,7 @@ use mathlib.Core.List.{List, [], _∷_, _++_, map, flatMap}
 use Prim.Native.Nat.{ℕ, zero, suc, _+_}
 use lib.Dec.{eqb, leb}
 use lib.ListN.{length, drop}
-use Rattle.effects.specs.declared.Effect.{Effect}
+use Rattle.effects.specs.Deeds.{Deed}
 use Rattle.machine.specs.declared.Machine.{Machine}
 use Rattle.machine.specs.declared.Turned.{Turned}
 use Rattle.events.specs.declared.Event.{Event}
@@ -96,7 +96,7 @@ module _ {M D C : Type 0} (bench : Bench M D C) where
   placesOf trace = map (λ s. bench .next (s .before)) (trace .steps)
 
 -- The plain bench.
-abbrev pub plain : Bench Machine Effect Turned
+abbrev pub plain : Bench Machine Deed Turned
 plain =
     record {
       next = λ m. m .next;
@@ -108,7 +108,7 @@ plain =
     }
 
 abbrev pub PlainTrace : Type 0
-PlainTrace = Trace Machine Effect Turned
+PlainTrace = Trace Machine Deed Turned
 
 abbrev pub Course : Type 0
 Course = CourseOf Machine
@@ -119,7 +119,7 @@ Reached = ReachedOf Machine
 abbrev pub reach : ℕ → List Event → Machine → Reached
 reach t es m = reachBy happens t es m
 
-module _ (act : Machine → Effect) (cells : ℕ) where
+module _ (act : Machine → Deed) (cells : ℕ) where
   abbrev pub traceFrom : ℕ → ℕ → List Event → Machine → PlainTrace
   traceFrom left t es m = traceOn plain act cells left t es m
 

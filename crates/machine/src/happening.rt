@@ -10,7 +10,7 @@ ghost use Rattle.events.specs.Events.{eventCount, goodEvent, badEvents};
 ghost use Rattle.machine.specs.Happens.{input};
 ghost use Rattle.machine.specs.Code.{Bit, Inputs, Arrived, Happened, Acted};
 use crate::Motion;
-use effects::values::read;
+use acting::values::read;
 use events::Event;
 use events::script::whole_event;
 use program::Variable;

@@ -2,7 +2,7 @@
 ghost use mathlib.Core.Path.{_≡_};
 ghost use Prim.Native.Nat.{ℕ};
 ghost use Rattle.machine.specs.declared.Machine.{Machine};
-ghost use Rattle.machine.specs.Turn.{nothing, storeRecord, turn};
+ghost use Rattle.machine.specs.Turn.{nothing, storeRecord, applied};
 use effects::Effect;
 use events::Record;
 use program::Variable;
@@ -34,7 +34,7 @@ fn stored(v: u32, value: i32) -> Record
 
 // What a turn with this effect records.
 pub fn recorded(does: Effect) -> Record
-    ensures { λ r. ⌜ ((cells : ℕ) → (m : Machine) → r ≡ turn cells does m .wrote) ⌝ }
+    ensures { λ r. ⌜ ((cells : ℕ) → (m : Machine) → r ≡ applied cells does m .wrote) ⌝ }
 {
     match does {
         Effect::Fails(error) => Record {

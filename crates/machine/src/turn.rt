@@ -6,7 +6,8 @@ ghost use Prim.Native.Nat.{ℕ, _-_, _≤_, _<_};
 ghost use lib.IntN.{ℤ, pos};
 ghost use lib.ListN.{length, set};
 ghost use Rattle.effects.specs.declared.Effect.the-variants.{Fails};
-ghost use Rattle.machine.specs.Turn.{at, withHandler, onward, stored, movingBit, inMotion, slew, called, returned, held, failed, turn};
+ghost use Rattle.acting.specs.Code.{clearsBy};
+ghost use Rattle.machine.specs.Turn.{at, withHandler, onward, stored, movingBit, inMotion, slew, called, returned, held, failed, applied, clearing};
 ghost use Rattle.events.specs.Events.{badEvents, eventCount};
 ghost use Rattle.machine.specs.Code.{Inputs, Ready, acts, changed, joined, whole, turnBy};
 use crate::Control;
@@ -19,8 +20,9 @@ use crate::calls::last_place;
 use crate::calls::release;
 use crate::happening::reach;
 use crate::recording::recorded;
+use acting::clearing::clears;
+use acting::doing::effect;
 use effects::Effect;
-use effects::doing::effect;
 use events::Record;
 use program::Cell;
 use program::Variable;
@@ -84,7 +86,7 @@ fn set_moving(vars: &mut [i32; 64], motion: Motion)
 }
 
 // What an effect does to the variables.
-fn change(vars: &mut [i32; 64], does: Effect)
+fn apply(vars: &mut [i32; 64], does: Effect)
     requires { ⌜ length (now vars) ≡ 64 ⌝ }
     ensures { λ r. ⌜ now (vars .exit) ≡ changed does (now (vars .entry)) ⌝ }
 {
@@ -98,6 +100,22 @@ fn change(vars: &mut [i32; 64], does: Effect)
         } => set_moving(vars, Motion::To(target)),
         Effect::Slews(velocity) => set_moving(vars, Motion::slew(velocity)),
         _ => {}
+    }
+}
+
+// The same, and behind it EF is cleared where the cell's statement clears it, with so many turns of a hold still to come. Where EF is 0, nothing need be asked.
+fn change(vars: &mut [i32; 64], cell: Cell, hold: u32, does: Effect)
+    requires { ⌜ length (now vars) ≡ 64 ⌝ }
+    ensures { λ r. ⌜ now (vars .exit) ≡ clearing (clearsBy cell hold does) (changed does (now (vars .entry))) ⌝ }
+{
+    apply(vars, does);
+    let flag = Variable::EF as usize;
+    if vars[flag] == 0 {
+        return;
+    }
+    if clears(cell, hold, does) {
+        vars[flag] = 0;
+        return;
     }
 }
 
@@ -193,7 +211,7 @@ impl Control {
     // What an effect comes to besides the variables, in a program with so many cells.
     fn after(self, does: Effect, cells: u16) -> Control
         requires { ⌜ (self .next < 65535) × Ready (self .places .kept) does ⌝ }
-        ensures { λ r. ⌜ ((vars : List ℤ) → joined (changed does vars) r ≡ turn cells does (joined vars self) .machine) ⌝ }
+        ensures { λ r. ⌜ ((vars : List ℤ) → joined (changed does vars) r ≡ applied cells does (joined vars self) .machine) ⌝ }
     {
         match does {
             Effect::Fails(_) => self.failed(),
@@ -217,7 +235,7 @@ impl Control {
 
     // Whether the run stops: an error finds no place free for the call of the handler.
     fn stops(self, does: Effect) -> bool
-        ensures { λ r. ⌜ ((cells : ℕ) → (vars : List ℤ) → r ≡ turn cells does (joined vars self) .stops) ⌝ }
+        ensures { λ r. ⌜ ((cells : ℕ) → (vars : List ℤ) → r ≡ applied cells does (joined vars self) .stops) ⌝ }
     {
         match does {
             Effect::Fails(_) => (self.handler != Machine::NO_HANDLER)
@@ -265,7 +283,7 @@ impl Machine {
         let motion = self.motion;
         let motion = reach(&mut variables, motion, events, first, last);
         let does = effect(cell, &variables, self.places.kept, self.hold);
-        change(&mut variables, does);
+        change(&mut variables, cell, self.hold, does);
         let before = Control {
             next: self.next,
             places: places,

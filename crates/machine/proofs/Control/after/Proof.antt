@@ -5,7 +5,7 @@ use mathlib.Core.List.{[]}
 use mir.Val.{toZ, ofZ}
 use mir.Syntax.{w32}
 use Rattle.machine.specs.declared.Machine.{Machine}
-use Rattle.machine.specs.Turn.{noHandler, onward, turn}
+use Rattle.machine.specs.Turn.{noHandler, onward, applied}
 use Rattle.machine.specs.Code.{changed}
 use Rattle.machine.proofs.Turns.{after-by, goes-onward}
 use borrow.Author.Needs.{needs}
@@ -25,47 +25,47 @@ onward-requires-2 : tie.Need-onward-requires-2
 onward-requires-2 c κs = rw (ap (λ (m : Machine). m .next) (c .with-handler2 .ensures [])) (c .before .before .before .pre .0)
 
 returns : tie.Need-returns
-unfolding turn
+unfolding applied
 returns c = after-by _ _ (c .before .enum-told .given .1) (c .failed .ensures _)
 
 returns-2 : tie.Need-returns-2
-unfolding turn changed
+unfolding applied changed
 returns-2 c = after-by _ _ (c .before .before .does .given .1) (c .at .ensures)
 
 returns-3 : tie.Need-returns-3
-unfolding turn changed
+unfolding applied changed
 returns-3 c = after-by _ _ (c .before .before .does2 .given .1) (c .called .ensures)
 
 returns-4 : tie.Need-returns-4
-unfolding turn changed
+unfolding applied changed
 returns-4 c = after-by _ _ (c .before .enum-told2 .given .1) (c .returned .ensures)
 
 returns-5 : tie.Need-returns-5
-unfolding turn changed
+unfolding applied changed
 returns-5 c = after-by _ _ (c .before .enum-told3 .given .1) (c .at2 .ensures)
 
 returns-6 : tie.Need-returns-6
-unfolding turn changed
+unfolding applied changed
 returns-6 c = after-by _ _ (c .enum-told4 .given .1) (λ vars. refl)
 
 returns-7 : tie.Need-returns-7
-unfolding turn changed
+unfolding applied changed
 returns-7 c = after-by _ _ (c .before .before .does3 .given .1) (c .held .ensures)
 
 returns-8 : tie.Need-returns-8
-unfolding turn changed
+unfolding applied changed
 returns-8 c = after-by _ _ (c .before .before .before .does4 .given .1) (λ vars. c .onward .ensures vars ∙ ap (λ (m : Machine). onward m) (c .before .with-handler .ensures vars))
 
 returns-9 : tie.Need-returns-9
-unfolding turn changed noHandler
+unfolding applied changed noHandler
 returns-9 c = after-by _ _ (c .before .before .enum-told5 .given .1) (λ vars. c .onward2 .ensures vars ∙ ap (λ (m : Machine). onward m) (c .before .with-handler2 .ensures vars))
 
 returns-10 : tie.Need-returns-10
-unfolding turn changed
+unfolding applied changed
 returns-10 c = let d = c .before .before .does5 .given in let x′ : toZ w32 (ofZ w32 (d .0 .0)) ≡ d .0 .0 = search needs in after-by _ _ (d .1) (λ vars. simp x′ at (c .moved .ensures vars))
 
 returns-11 : tie.Need-returns-11
-unfolding turn changed
+unfolding applied changed
 returns-11 c = let d = c .before .before .before .does6 .given in let z′ : toZ w32 (ofZ w32 (d .0 .0)) ≡ d .0 .0 = search needs in after-by _ _ (d .1) (λ vars. simp (c .before .slew .ensures, z′) at (c .moved2 .ensures vars))
 
 returns-12 : tie.Need-returns-12

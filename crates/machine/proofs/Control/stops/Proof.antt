@@ -1,14 +1,14 @@
 -- `Control::stops` meets its contract: only an error stops a run.
 -- Assumes nothing.
 use native.Mathlib.Omega.{arith}
-use Rattle.machine.specs.Turn.{noHandler, turn}
+use Rattle.machine.specs.Turn.{noHandler, applied}
 use Rattle.machine.specs.Code.{joined}
 use Rattle.machine.proofs.Turns.{error-stops, runs-on}
 use Rattle.machine.proofs.Control.stops.Statement.{statement}
 use Rattle.machine.proofs.Control.stops.Tie as tie
 
 returns : tie.Need-returns
-unfolding turn noHandler
+unfolding applied noHandler
 returns c = λ cells vars. let st = c .before .before .before .before in rw (c .before .before .enum-told .given .1) (error-stops _ (joined vars (st .args .self)))
 
 returns-2 : tie.Need-returns-2

@@ -1,58 +1,32 @@
--- `change` meets its contract: by the effect.
+-- `change` meets its contract: the effect, then EF.
 -- Assumes nothing.
-use mathlib.Core.Path.{_≡_}
+use mathlib.Core.Path.{_≡_, sym, ap, _∙_}
+use mathlib.Core.List.{List}
 use native.Mathlib.Omega.{arith}
-use mir.Val.{toZ, ofZ}
+use lib.IntN.{ℤ, pos}
+use lib.ListN.{set, getD}
 use mir.Syntax.{w32}
-use Rattle.machine.specs.Code.{changed}
-use Rattle.machine.proofs.Turns.{unchanged}
+use mir.Val.{toZ, ofZ}
+use Rattle.program.proofs.Results.{held, failed}
+use Rattle.machine.specs.Turn.{clearing}
+use Rattle.machine.proofs.Turns.{cleared-already}
 use borrow.Author.Needs.{needs}
 use Rattle.machine.proofs.turn.change.Statement.{statement}
 use Rattle.machine.proofs.turn.change.Tie as tie
 
 returns : tie.Need-returns
-unfolding changed
-returns c = rw (c .before .before .before .does .given .1) (c .flag .ensures)
+returns c =
+    let after = c .before .before .apply in
+    let same : toZ w32 (ofZ w32 (getD (after .last .0) 15 (pos 0))) ≡ getD (after .last .0) 15 (pos 0) = search needs in
+    cleared-already _ (after .last .0) (sym same ∙ ap (toZ w32) (c .if1 .taken)) ∙ ap (clearing _) (after .ensures)
 
 returns-2 : tie.Need-returns-2
-unfolding changed
-returns-2 c =
-    let d = c .before .before .before .does2 .given in
-    let z′ : toZ w32 (ofZ w32 (d .0 .1 .0)) ≡ d .0 .1 .0 = search needs in
-    rw (d .1) (simp z′ at (c .store .ensures))
+unfolding clearing
+returns-2 c = rw (held (c .before .clears .ensures) (c .if2 .taken)) (ap (λ (x : List ℤ). set x 15 (pos 0)) (c .before .before .before .before .apply .ensures))
 
 returns-3 : tie.Need-returns-3
-unfolding changed
-returns-3 c =
-    let d = c .before .before .before .does3 .given in
-    let z′ : toZ w32 (ofZ w32 (d .0 .0)) ≡ d .0 .0 = search needs in
-    rw (d .1) (simp z′ at (c .set-moving .ensures))
-
-returns-4 : tie.Need-returns-4
-unfolding changed
-returns-4 c =
-    let d = c .before .before .before .before .does4 .given in
-    let z′ : toZ w32 (ofZ w32 (d .0 .0)) ≡ d .0 .0 = search needs in
-    rw (d .1) (simp (c .before .slew .ensures, z′) at (c .set-moving2 .ensures))
-
-returns-5 : tie.Need-returns-5
-returns-5 c = unchanged (c .before .args .does) _ (c .match .keys5)
+unfolding clearing
+returns-3 c = rw (failed (c .before .clears .ensures) (c .if2 .left)) (c .before .before .before .before .apply .ensures)
 
 pub change-spec : {M : Type 1} → statement M
-change-spec =
-    tie.close
-    (tie.spec
-    (λ c. omega arith)
-    (λ c κs. tt)
-    (λ c. omega arith)
-    (λ c κs. omega arith)
-    (λ c. omega arith)
-    (λ c κs. tt)
-    (λ c. omega arith)
-    (λ c κs. tt)
-    (λ c κs. tt)
-    returns
-    returns-2
-    returns-3
-    returns-4
-    returns-5)
+change-spec = tie.close (tie.spec (λ c κs. search needs) (λ c. omega arith) (λ c. omega arith) (λ c. omega arith) returns (λ c κs. tt) (λ c. omega arith) (λ c. omega arith) returns-2 returns-3)
