@@ -8,13 +8,13 @@ use borrow.Author.Tests.{lt-ltb, le-ltb, ltb-false}
 use lib.Dec.{ltb}
 use Rattle.numbers.proofs.Truth.{if-same}
 use Rattle.program.specs.Statements.{Condition, CL}
-use Rattle.effects.specs.declared.Effect.{Effect}
 use Rattle.effects.specs.declared.Effect.the-variants.{Fails, Calls}
 use Rattle.effects.specs.Errors.{noPlaceFree}
 use Rattle.effects.specs.Effects.{holds, calling, callingIf, effect}
+use Rattle.effects.specs.Deeds.{Deed, deed}
 use Rattle.machine.specs.declared.Machine.{Machine}
 use Rattle.machine.specs.declared.Turned.{Turned}
-use Rattle.machine.specs.Turn.{noHandler, keep, called, turn}
+use Rattle.machine.specs.Turn.{noHandler, keep, called, applied, turn}
 use Rattle.rules.proofs.Errors.{Leaves, as-is, InError, in-error}
 
 -- Turn 23, Wrong 3: a turn in error 104 that does not go to this label. With no handler the following cell is next, with one the same
@@ -29,15 +29,15 @@ module _ {R : Type 0} (place number : R → ℕ) (m : Machine) (n : R) (c : Cond
   abbrev met : Bool
   met = holds place number (m .variables) (m .places .kept) (m .hold) c
 
-  abbrev does : Effect
-  does = effect place number (m .variables) (m .places .kept) (m .hold) (CL n c)
+  abbrev does : Deed
+  does = deed place number (m .variables) (m .places .kept) (m .hold) (CL n c)
 
   -- Turn 12, Turn 21: a CL is in error exactly where its condition holds and eight places are kept, and the error is 104.
-  pub call-fails : met ≡ true → 8 ≤ m .places .kept → does ≡ Fails noPlaceFree
+  pub call-fails : met ≡ true → 8 ≤ m .places .kept → does .effect ≡ Fails noPlaceFree
   unfolding effect callingIf calling
   call-fails t k = rw (t, le-ltb (m .places .kept) 8 k)
 
-  pub call-failed : (error : ℕ) → does ≡ Fails error → (error ≡ noPlaceFree) × (met ≡ true) × (8 ≤ m .places .kept)
+  pub call-failed : (error : ℕ) → does .effect ≡ Fails error → (error ≡ noPlaceFree) × (met ≡ true) × (8 ≤ m .places .kept)
   unfolding effect callingIf calling
   call-failed error e = by-condition met refl e
     where
@@ -51,12 +51,11 @@ module _ {R : Type 0} (place number : R → ℕ) (m : Machine) (n : R) (c : Cond
 
   module _ (cells : ℕ) where
     -- Turn 23, Wrong 3: a CL in error does not jump to its label.
-    pub call-in-error : does ≡ Fails noPlaceFree → NoJump (place n) m (turn cells does m)
+    pub call-in-error : does .effect ≡ Fails noPlaceFree → NoJump (place n) m (turn cells does m)
     call-in-error e =
-        let f = in-error cells noPlaceFree m in
+        let f = in-error cells does m e in
         let k = call-failed noPlaceFree e .2 in
-        rw e
-        (record {
+        record {
           error = f;
           unarmed = f .unarmed;
           armed = λ h. f .full h k;
@@ -64,14 +63,14 @@ module _ {R : Type 0} (place number : R → ℕ) (m : Machine) (n : R) (c : Cond
               λ a b l. if-same (m .handler) noHandler
               (λ h. a (sym l ∙ f .unarmed h .next-cell))
               (λ h. b (sym l ∙ f .full h k .next-cell));
-        })
+        }
 
     -- Turn 12, Turn 13: where its condition holds and a place is free, it goes to its label and keeps the following cell.
     pub call-made : met ≡ true → m .places .kept < 8 → Leaves (place n) (keep (m .places) (m .next + 1)) (m .handler) false (turn cells does m)
-    unfolding effect callingIf calling turn called
+    unfolding effect callingIf calling turn applied called
     call-made t k = rw (t, lt-ltb (m .places .kept) 8 k) (as-is _)
 
     -- Turn 12: where its condition does not hold, the following cell is next, and nothing is kept.
     pub call-passed : met ≡ false → Leaves (m .next + 1) (m .places) (m .handler) false (turn cells does m)
-    unfolding effect callingIf turn
+    unfolding effect callingIf turn applied
     call-passed t = rw t (as-is _)

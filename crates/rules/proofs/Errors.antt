@@ -1,6 +1,6 @@
 -- A turn of a statement in error: what it changes, and the three ways on from it.
 -- Assumes nothing.
-use mathlib.Core.Path.{_≡_, refl, ap, _∙_}
+use mathlib.Core.Path.{_≡_, refl, sym, ap, _∙_, subst}
 use mathlib.Core.Bool.{Bool, true, false}
 use mathlib.Core.List.{List}
 use Prim.Native.Nat.{ℕ, suc, _+_, _≤_, _<_}
@@ -13,11 +13,13 @@ use Rattle.numbers.proofs.Truth.{chosen}
 use Rattle.effects.specs.declared.Effect.{Effect}
 use Rattle.effects.specs.declared.Effect.the-variants.{Fails}
 use Rattle.effects.specs.Effects.{read}
+use Rattle.effects.specs.Deeds.{Deed, clears}
+use Rattle.effects.proofs.Reading.{error-clears-nothing}
 use Rattle.machine.specs.declared.Machine.{Machine}
 use Rattle.machine.specs.declared.Places.{Places}
 use Rattle.machine.specs.declared.Turned.{Turned}
 use Rattle.events.specs.declared.Event.{Event}
-use Rattle.machine.specs.Turn.{noHandler, turned, onward, withHandler, recorded, keep, called, flagged, failed, turn}
+use Rattle.machine.specs.Turn.{noHandler, turned, onward, withHandler, recorded, keep, called, flagged, failed, applied, clearing, turn}
 use Rattle.events.specs.Events.{recordBytes}
 use Rattle.machine.specs.Run.{reach, runFrom}
 use Rattle.machine.proofs.Traces.{ended, after}
@@ -60,9 +62,9 @@ each-way : (P : Turned → Type 0) (error : ℕ) (m : Machine)
 unfolding failed
 each-way P error m a b c = chosen P (eqb (m .handler) noHandler) (λ k. a) (λ k. chosen P (ltb (m .places .kept) 8) (λ l. b) (λ l. c))
 
-pub in-error : (cells error : ℕ) (m : Machine) → InError error m (turn cells (Fails error) m)
-unfolding turn failed flagged called keep
-in-error cells error m =
+pub applied-in-error : (cells error : ℕ) (m : Machine) → InError error m (applied cells (Fails error) m)
+unfolding applied failed flagged called keep
+applied-in-error cells error m =
     record {
       variables = each-way (λ (t : Turned). t .machine .variables ≡ set (set (m .variables) 10 (pos error)) 15 (pos 1)) error m refl refl refl;
       motion = each-way (λ (t : Turned). t .machine .motion ≡ m .motion) error m refl refl refl;
@@ -73,38 +75,50 @@ in-error cells error m =
       full = λ n k. rw (ne-eqb (m .handler) noHandler n, le-ltb (m .places .kept) 8 k) (as-is _);
     }
 
--- The same, variable by variable.
-pub others-in-error : (cells error : ℕ) (m : Machine) (v : ℕ) → (v ≡ 10 → ⊥) → (v ≡ 15 → ⊥)
-    → read (turn cells (Fails error) m .machine .variables) v ≡ read (m .variables) v
-others-in-error cells error m v n o =
-    ap (λ (x : List ℤ). read x v) (in-error cells error m .variables)
-    ∙ read-other (set (m .variables) 10 (pos error)) 15 v (pos 1) o
-    ∙ read-other (m .variables) 10 v (pos error) n
+-- Q-2 4: so is the turn of any statement in error, whatever it reads: it clears nothing.
+whole-turn : (cells : ℕ) (d : Deed) (m : Machine) → clears d ≡ false → turn cells d m ≡ applied cells (d .effect) m
+unfolding turn clearing
+whole-turn cells d m e = rw e
 
-pub er-in-error : (cells error : ℕ) (m : Machine) → length (m .variables) ≡ 64 → read (turn cells (Fails error) m .machine .variables) 10 ≡ pos error
-er-in-error cells error m l =
-    ap (λ (x : List ℤ). read x 10) (in-error cells error m .variables)
-    ∙ read-other (set (m .variables) 10 (pos error)) 15 10 (pos 1) (λ e. omega arith)
-    ∙ read-same (m .variables) 10 (pos error) (omega arith)
+module _ (cells : ℕ) (d : Deed) {error : ℕ} (m : Machine) (fails : d .effect ≡ Fails error) where
+  pub turn-in-error : turn cells d m ≡ applied cells (Fails error) m
+  turn-in-error = whole-turn cells d m (error-clears-nothing d fails) ∙ ap (λ (e : Effect). applied cells e m) fails
 
-pub ef-in-error : (cells error : ℕ) (m : Machine) → length (m .variables) ≡ 64 → read (turn cells (Fails error) m .machine .variables) 15 ≡ pos 1
-ef-in-error cells error m l =
-    ap (λ (x : List ℤ). read x 15) (in-error cells error m .variables)
-    ∙ read-same (set (m .variables) 10 (pos error)) 15 (pos 1) (omega (arith, length-set (m .variables) 10 (pos error)))
+  pub in-error : InError error m (turn cells d m)
+  in-error = subst (InError error m) (sym turn-in-error) (applied-in-error cells error m)
+
+  -- The same, variable by variable.
+  pub others-in-error : (v : ℕ) → (v ≡ 10 → ⊥) → (v ≡ 15 → ⊥) → read (turn cells d m .machine .variables) v ≡ read (m .variables) v
+  others-in-error v n o =
+      ap (λ (x : List ℤ). read x v) (in-error .variables)
+      ∙ read-other (set (m .variables) 10 (pos error)) 15 v (pos 1) o
+      ∙ read-other (m .variables) 10 v (pos error) n
+
+  pub er-in-error : length (m .variables) ≡ 64 → read (turn cells d m .machine .variables) 10 ≡ pos error
+  er-in-error l =
+      ap (λ (x : List ℤ). read x 10) (in-error .variables)
+      ∙ read-other (set (m .variables) 10 (pos error)) 15 10 (pos 1) (λ e. omega arith)
+      ∙ read-same (m .variables) 10 (pos error) (omega arith)
+
+  pub ef-in-error : length (m .variables) ≡ 64 → read (turn cells d m .machine .variables) 15 ≡ pos 1
+  ef-in-error l =
+      ap (λ (x : List ℤ). read x 15) (in-error .variables)
+      ∙ read-same (set (m .variables) 10 (pos error)) 15 (pos 1) (omega (arith, length-set (m .variables) 10 (pos error)))
 
 -- Turn 25: a handler, and all eight places in use: an error stops the run, and the next cell, the places and the handler stay.
-pub stopped : (cells error : ℕ) (m : Machine) → (m .handler ≡ noHandler → ⊥) → 8 ≤ m .places .kept → turn cells (Fails error) m ≡ halted error m
-unfolding turn failed
-stopped cells error m n k = rw (ne-eqb (m .handler) noHandler n, le-ltb (m .places .kept) 8 k)
+pub stopped : (cells : ℕ) (d : Deed) {error : ℕ} (m : Machine) → d .effect ≡ Fails error → (m .handler ≡ noHandler → ⊥) → 8 ≤ m .places .kept
+    → turn cells d m ≡ halted error m
+unfolding applied failed
+stopped cells d m e n k = turn-in-error cells d m e ∙ rw (ne-eqb (m .handler) noHandler n, le-ltb (m .places .kept) 8 k)
 
 pub unmoved : (error : ℕ) (m : Machine) → Leaves (m .next) (m .places) (m .handler) true (halted error m)
 unfolding flagged
 unmoved error m = as-is (halted error m)
 
 -- Turn 25: the reason is then 2, whatever is left of the budget.
-pub stopped-run : (act : Machine → Effect) (cells left t : ℕ) (es : List Event) (m : Machine) (error : ℕ)
-    → m .next < cells → act (reach t es m .machine) ≡ Fails error → (reach t es m .machine .handler ≡ noHandler → ⊥) → 8 ≤ reach t es m .machine .places .kept
+pub stopped-run : (act : Machine → Deed) (cells left t : ℕ) (es : List Event) (m : Machine) (error : ℕ)
+    → m .next < cells → act (reach t es m .machine) .effect ≡ Fails error → (reach t es m .machine .handler ≡ noHandler → ⊥) → 8 ≤ reach t es m .machine .places .kept
     → runFrom act cells (suc left) t es m ≡ after (recordBytes t (recorded 6 0 (pos error))) (ended 2 (suc t) (flagged error (reach t es m .machine)))
 stopped-run act cells left t es m error here a n k =
-    let e = stopped cells error (reach t es m .machine) n k in
-    one-statement act cells left t es m here ∙ rw (a, e)
+    let e = stopped cells (act (reach t es m .machine)) (reach t es m .machine) a n k in
+    one-statement act cells left t es m here ∙ rw e

@@ -7,6 +7,7 @@ pub mod Run
 pub mod Errors
 pub mod Calls
 pub mod Holding
+pub mod Flags
 pub mod Never
 pub mod Inside
 pub mod Later

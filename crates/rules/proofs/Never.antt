@@ -1,41 +1,32 @@
 -- What never happens: the sentences of document 01 that say nothing else, no, only or at most.
 -- Assumes nothing.
-use mathlib.Core.Path.{_≡_, refl, sym, ap, ap₂, _∙_, subst}
-use mathlib.Core.Bool.{Bool, true, false, not}
+use mathlib.Core.Path.{_≡_, refl, _∙_}
+use mathlib.Core.Bool.{true, false}
 use mathlib.Core.List.{List, [], _∷_, flatMap}
 use mathlib.Core.Logic.{_⊎_, inl, inr, ⊎-elim}
 use Prim.Native.Nat.{ℕ, suc, _+_, _*_, _≤_}
 use native.Mathlib.Omega.{arith}
-use borrow.Author.Tests.{ne-eqb}
-use lib.Dec.{T, eqb, ltb}
+use lib.Dec.{eqb}
 use lib.IntN.{ℤ, pos, _+ℤ_, _-ℤ_}
-use lib.ListN.{length, set, length-set, length-append}
+use lib.ListN.{length, length-append}
 use Rattle.numbers.specs.Bytes.{bytes}
 use Rattle.numbers.specs.Tests.{eqZ}
-use Rattle.numbers.proofs.Truth.{chosen, if-same}
-use Rattle.program.specs.Variables.{inRange, literals, rangeOf, readOnly, allInputs}
-use Rattle.program.specs.Statements.{Operator, Divided, Value, Statement, SetWith, IC, DC, MA, MR, isHold}
+use Rattle.numbers.proofs.Truth.{chosen}
+use Rattle.program.specs.Variables.{inRange, literals}
+use Rattle.program.specs.Statements.{Operator, Divided, Value, Statement, SetWith, IC, DC, MA, MR}
 use Rattle.effects.specs.declared.Effect.{Effect}
-use Rattle.effects.specs.declared.Effect.the-variants.{Fails, Stores, Passes, Goes, Calls, Returns, Ends, Stays, Holds, Arms, Disarms, Moves, Slews, Prints}
+use Rattle.effects.specs.declared.Effect.the-variants.{Fails}
 use Rattle.effects.specs.Errors.{resultError, divisorZero, valueOutside, stillMoving}
+use Rattle.effects.specs.Deeds.{Deed}
 use Rattle.effects.specs.Effects.{read, storing, storingResult, operate, zeroDivisor, storingWith, moving, value, effect}
 use Rattle.machine.specs.declared.Machine.{Machine}
-use Rattle.machine.specs.declared.Motion.{Motion}
-use Rattle.machine.specs.declared.Motion.the-variants.{Still, To, Slewing}
 use Rattle.events.specs.declared.Record.{Record}
 use Rattle.machine.specs.declared.Turned.{Turned}
 use Rattle.events.specs.declared.Event.{Event}
-use Rattle.machine.specs.Turn.{stored, inMotion, movingBit, slew, called, returned, held, turn}
-use Rattle.events.specs.Events.{goodEvent, recordBytes}
-use Rattle.machine.specs.Happens.{input, arrivedBy, happens}
+use Rattle.events.specs.Events.{recordBytes}
 use Rattle.machine.specs.Run.{Step, Course, plain, courseOf, traceFrom, runFrom}
 use Rattle.machine.proofs.Traces.{few-turns}
-use Rattle.rules.specs.Rules.{Ruled}
-use Rattle.rules.specs.Good.{Good}
-use Rattle.rules.proofs.Values.{read-same, read-other, mayHold}
-use Rattle.rules.proofs.Events.{Kinds, an-input, arrived, a-position, kinds-of}
-use Rattle.rules.proofs.Errors.{ef-in-error}
-use Rattle.rules.proofs.Turn.{Sound, sound-effect, zero-only}
+use Rattle.rules.proofs.Values.{mayHold}
 
 -- Events 6: a turn records 12 bytes or none.
 pub record-length : (t : ℕ) (r : Record) → (length (recordBytes t r) ≡ 0) ⊎ (length (recordBytes t r) ≡ 12)
@@ -56,7 +47,7 @@ pub record Twelves (n : ℕ) (records : List ℕ) : Type 0 where
   pub whole : length records ≡ 12 * count
   pub one-each : count ≤ n
 
-twelves : (ss : List (Step Machine Effect Turned)) → Twelves (length ss) (flatMap (λ s. recordBytes (s .turn) (s .came .wrote)) ss)
+twelves : (ss : List (Step Machine Deed Turned)) → Twelves (length ss) (flatMap (λ s. recordBytes (s .turn) (s .came .wrote)) ss)
 unfolding flatMap
 twelves [] = record { count = 0; whole = refl; one-each = omega arith }
 twelves (s ∷ ss) =
@@ -69,7 +60,7 @@ twelves (s ∷ ss) =
     (λ h. record { count = suc (n .count); whole = e ∙ omega arith; one-each = omega arith })
     (record-length (s .turn) (s .came .wrote))
 
-pub run-bounded : (act : Machine → Effect) (cells left t : ℕ) (es : List Event) (m : Machine) → Bounded t left (runFrom act cells left t es m)
+pub run-bounded : (act : Machine → Deed) (cells left t : ℕ) (es : List Event) (m : Machine) → Bounded t left (runFrom act cells left t es m)
 unfolding courseOf
 run-bounded act cells left t es m =
     let n = twelves (traceFrom act cells left t es m .steps) in
@@ -80,67 +71,6 @@ run-bounded act cells left t es m =
       whole = n .whole;
       one-each = omega (arith, n .one-each);
     }
-
--- Turn 11: nothing but a store to ER clears EF (15); and the store is of 0, the only value that ER takes.
-store-clears : (vars : List ℤ) (v : ℕ) (z : ℤ) → T (not (readOnly v)) → T (mayHold vars v z)
-    → read vars 15 ≡ pos 1 → (read (stored vars v z) 15 ≡ pos 1 → ⊥) → Stores v z ≡ Stores 10 (pos 0)
-unfolding stored rangeOf
-store-clears vars v z w t b a =
-    if-same v 10
-    (λ e. ap₂ Stores e (zero-only z (subst (λ (k : ℕ). T (mayHold vars k z)) e t)))
-    (λ n. absurd (a (rw (ne-eqb v 10 n) (read-other vars v 15 z (λ e. subst (λ (k : ℕ). T (not (readOnly k))) (sym e) w) ∙ b))))
-
-held-variables : (turns : ℕ) (m : Machine) → held turns m .variables ≡ m .variables
-unfolding held
-held-variables turns m = chosen (λ (x : Machine). x .variables ≡ m .variables) (ltb 0 turns) (λ k. refl) (λ k. refl)
-
-module _ (cells variables : ℕ) (holds : ℕ → Bool) (m : Machine) (r : Ruled cells variables holds m) (set-before : read (m .variables) 15 ≡ pos 1) where
-  ef-cleared : (e : Effect) → Sound cells variables holds m e → (read (turn cells e m .machine .variables) 15 ≡ pos 1 → ⊥) → e ≡ Stores 10 (pos 0)
-  unfolding turn inMotion called returned
-  ef-cleared (Fails error) s a = absurd (a (ef-in-error cells error m (r .all-there .0)))
-  ef-cleared (Stores v z) s a = store-clears (m .variables) v z (s .1) (s .2) set-before a
-  ef-cleared Passes s a = absurd (a set-before)
-  ef-cleared (Goes cell) s a = absurd (a set-before)
-  ef-cleared (Calls cell) s a = absurd (a set-before)
-  ef-cleared Returns s a = absurd (a set-before)
-  ef-cleared Ends s a = absurd (a set-before)
-  ef-cleared Stays s a = absurd (a set-before)
-  ef-cleared (Holds turns) s a = absurd (a (ap (λ (x : List ℤ). read x 15) (held-variables turns m) ∙ set-before))
-  ef-cleared (Arms cell) s a = absurd (a set-before)
-  ef-cleared Disarms s a = absurd (a set-before)
-  ef-cleared (Moves target kind z) s a = absurd (a (read-other (m .variables) 14 15 (movingBit (To target)) (λ e. omega arith) ∙ set-before))
-  ef-cleared (Slews z) s a = absurd (a (read-other (m .variables) 14 15 (movingBit (slew z)) (λ e. omega arith) ∙ set-before))
-  ef-cleared (Prints v z) s a = absurd (a set-before)
-
-  pub only-er-clears-ef : {R : Type 0} (place number : R → ℕ) (s : Statement R) → Good cells variables place number s → holds (m .next) ≡ isHold s
-      → (read (turn cells (effect place number (m .variables) (m .places .kept) (m .hold) s) m .machine .variables) 15 ≡ pos 1 → ⊥)
-      → effect place number (m .variables) (m .places .kept) (m .hold) s ≡ Stores 10 (pos 0)
-  only-er-clears-ef place number s good h a =
-      ef-cleared (effect place number (m .variables) (m .places .kept) (m .hold) s) (sound-effect cells variables holds m place number s good r h) a
-
--- Such a store does.
-pub er-clears-ef : (cells : ℕ) (z : ℤ) (m : Machine) → length (m .variables) ≡ 64 → read (turn cells (Stores 10 z) m .machine .variables) 15 ≡ pos 0
-unfolding turn stored
-er-clears-ef cells z m l = read-same (set (m .variables) 10 z) 15 (pos 0) (omega (arith, length-set (m .variables) 10 z))
-
--- An event does not.
-ef-arrived : (motion : Motion) (m : Machine) → read (arrivedBy motion m .variables) 15 ≡ read (m .variables) 15
-unfolding arrivedBy inMotion
-ef-arrived Still m = refl
-ef-arrived (To z) m = read-other (set (m .variables) 5 z) 14 15 (movingBit Still) (λ e. omega arith) ∙ read-other (m .variables) 5 15 z (λ e. omega arith)
-ef-arrived (Slewing z) m = refl
-
-ef-kind : (e : Event) (m : Machine) → Kinds e → read (happens e m .variables) 15 ≡ read (m .variables) 15
-unfolding happens input
-ef-kind e m (an-input k lo hi t) =
-    rw k
-    (read-other (set (m .variables) (15 + e .number) (e .value)) 20 15 (allInputs (set (m .variables) (15 + e .number) (e .value))) (λ q. omega arith)
-    ∙ read-other (m .variables) (15 + e .number) 15 (e .value) (λ q. omega arith))
-ef-kind e m (arrived k) = rw k (ef-arrived (m .motion) m)
-ef-kind e m (a-position k t) = rw k (read-other (m .variables) 5 15 (e .value) (λ q. omega arith))
-
-pub ef-event : (e : Event) (m : Machine) → T (goodEvent e) → read (happens e m .variables) 15 ≡ read (m .variables) 15
-ef-event e m good = ef-kind e m (kinds-of e good)
 
 -- Turn 22, Q-6 3: the order of errors, 106, 102, 101 or 109, 103.
 module _ {R : Type 0} (place number : R → ℕ) (vars : List ℤ) (kept hold : ℕ) where

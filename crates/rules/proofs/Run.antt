@@ -6,7 +6,7 @@ use mathlib.Core.List.{List}
 use Prim.Native.Nat.{ℕ, _<_}
 use lib.Dec.{T}
 use Rattle.numbers.specs.Tests.{allOf}
-use Rattle.effects.specs.declared.Effect.{Effect}
+use Rattle.effects.specs.Deeds.{Deed}
 use Rattle.machine.specs.declared.Machine.{Machine}
 use Rattle.events.specs.declared.Event.{Event}
 use Rattle.machine.specs.Turn.{turn}
@@ -19,13 +19,13 @@ use Rattle.rules.specs.Good.{Acts}
 use Rattle.rules.proofs.Events.{ruled-event}
 use Rattle.rules.proofs.Turn.{ruled-turn}
 
-module _ {R : Type 0} (cells variables : ℕ) (holds : ℕ → Bool) (place number : R → ℕ) (act : Machine → Effect)
+module _ {R : Type 0} (cells variables : ℕ) (holds : ℕ → Bool) (place number : R → ℕ) (act : Machine → Deed)
     (acts : (m : Machine) → Ruled cells variables holds m → m .next < cells → Acts cells variables holds place number act m) where
   -- One turn of what acts.
   pub ruled-act : (m : Machine) → Ruled cells variables holds m → m .next < cells → Ruled cells variables holds (turn cells (act m) m .machine)
   ruled-act m r here =
       let a = acts m r here in
-      subst (λ (e : Effect). Ruled cells variables holds (turn cells e m .machine)) (sym (a .does))
+      subst (λ (e : Deed). Ruled cells variables holds (turn cells e m .machine)) (sym (a .does))
       (ruled-turn cells variables holds place number (a .statement) m (a .good) r here (a .hold))
 
   -- Turn 3 to 7: the final state, whatever the budget.

@@ -10,7 +10,7 @@ use lib.ListN.{length, drop, length-append, length-drop}
 use lib.Seq.{take-append-le, drop-append-le, drop-append-add}
 use Rattle.numbers.specs.Bytes.{field}
 use Rattle.numbers.specs.Tests.{allOf, listed}
-use Rattle.effects.specs.declared.Effect.{Effect}
+use Rattle.effects.specs.Deeds.{Deed}
 use Rattle.machine.specs.declared.Machine.{Machine}
 use Rattle.events.specs.declared.Event.{Event}
 use Rattle.events.specs.Events.{eventAt, eventCount, events}
@@ -80,7 +80,7 @@ module _ (script more : List ℕ) (whole : length script % 12 ≡ 0) where
       (λ k. ap (eventAt (script ++ more)) (omega arith) ∙ event-second k))
 
   -- Events 3: the bytes of events at or after the turns that a run took change nothing.
-  pub later-bytes-unused : (act : Machine → Effect) (cells left t : ℕ) (m : Machine)
+  pub later-bytes-unused : (act : Machine → Deed) (cells left t : ℕ) (m : Machine)
       → T (allOf (λ (e : Event). leb (runFrom act cells left t (events script) m .turns) (e .turn)) (events more))
       → runFrom act cells left t (events (script ++ more)) m ≡ runFrom act cells left t (events script) m
   later-bytes-unused act cells left t m late = rw events-append (later-unused act cells left t (events script) (events more) m late)

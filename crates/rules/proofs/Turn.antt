@@ -18,12 +18,13 @@ use Rattle.effects.specs.declared.Effect.{Effect}
 use Rattle.effects.specs.declared.Effect.the-variants.{Fails, Stores, Passes, Goes, Calls, Returns, Ends, Stays, Holds, Arms, Disarms, Moves, Slews, Prints}
 use Rattle.effects.specs.Errors.{isError}
 use Rattle.effects.specs.Effects.{read, storing, storingResult, operate, zeroDivisor, storingWith, calling, returning, waiting, holding, moving, slewing, printing, branching, callingIf, effect}
+use Rattle.effects.specs.Deeds.{clears, deed}
 use Rattle.effects.proofs.Results.{result-error}
 use Rattle.machine.specs.declared.Machine.{Machine}
 use Rattle.machine.specs.declared.Motion.{Motion}
 use Rattle.machine.specs.declared.Motion.the-variants.{To}
 use Rattle.machine.specs.declared.Turned.{Turned}
-use Rattle.machine.specs.Turn.{noHandler, machine, stored, keep, lastPlace, inMotion, slew, called, returned, held, flagged, failed, turn}
+use Rattle.machine.specs.Turn.{noHandler, machine, withVariables, stored, keep, lastPlace, inMotion, slew, called, returned, held, flagged, failed, applied, clearing, turn}
 use Rattle.rules.specs.Rules.{Ruled, goodMotion}
 use Rattle.rules.specs.Good.{Good, writable}
 use Rattle.rules.proofs.Values.{errorNumber, mayHold}
@@ -209,8 +210,8 @@ module _ {cells variables : ℕ} {holds : ℕ → Bool} {m : Machine} (r : Ruled
       (λ k. together (registers-of r) (way-at (way-hold (way-of r) 0 (omega arith) h) (m .next + 1) (omega arith) (way-of r .back) refl))
 
   -- An effect of that kind keeps the rules.
-  pub ruled-effect : (e : Effect) → Sound cells variables holds m e → Ruled cells variables holds (turn cells e m .machine)
-  unfolding turn inMotion called returned lastPlace goodMotion
+  pub ruled-effect : (e : Effect) → Sound cells variables holds m e → Ruled cells variables holds (applied cells e m .machine)
+  unfolding applied inMotion called returned lastPlace goodMotion
   ruled-effect (Fails error) s = ruled-failed error (s .0) (s .1)
   ruled-effect (Stores v z) s = together (stored-registers v z (s .0) (s .1) (s .2)) (onward-way (s .3))
   ruled-effect Passes s = together (registers-of r) (onward-way s)
@@ -226,9 +227,19 @@ module _ {cells variables : ℕ} {holds : ℕ → Bool} {m : Machine} (r : Ruled
   ruled-effect (Slews z) s = together (registers-move (registers-of r) (slew z) (good-slew z (s .0))) (onward-way (s .1))
   ruled-effect (Prints v z) s = together (registers-of r) (onward-way s)
 
+-- So does clearing EF (15) behind it.
+ruled-cleared : {cells variables : ℕ} {holds : ℕ → Bool} {m : Machine} (t : Bool) → Ruled cells variables holds m
+    → Ruled cells variables holds (withVariables (clearing t (m .variables)) m)
+unfolding clearing rangeOf
+ruled-cleared true r =
+    together (registers-set (registers-of r) 15 (pos 0) tt (λ e. omega arith) (inl (omega arith)) (λ n. tt) (λ e. absurd (omega arith))) (way-of r)
+ruled-cleared false r = r
+
 -- Turn 3 to 5: one turn of a good statement keeps the rules; `holds` says of the next cell whether it is an `H x`.
 pub ruled-turn : {R : Type 0} (cells variables : ℕ) (holds : ℕ → Bool) (place number : R → ℕ) (s : Statement R) (m : Machine)
     → Good cells variables place number s → Ruled cells variables holds m → m .next < cells → holds (m .next) ≡ isHold s
-    → Ruled cells variables holds (turn cells (effect place number (m .variables) (m .places .kept) (m .hold) s) m .machine)
+    → Ruled cells variables holds (turn cells (deed place number (m .variables) (m .places .kept) (m .hold) s) m .machine)
+unfolding turn
 ruled-turn cells variables holds place number s m good r here e =
-    ruled-effect r here (effect place number (m .variables) (m .places .kept) (m .hold) s) (sound-effect cells variables holds m place number s good r e)
+    ruled-cleared (clears (deed place number (m .variables) (m .places .kept) (m .hold) s))
+    (ruled-effect r here (effect place number (m .variables) (m .places .kept) (m .hold) s) (sound-effect cells variables holds m place number s good r e))

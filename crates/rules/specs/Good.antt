@@ -8,8 +8,7 @@ use lib.Dec.{T, leb}
 use Rattle.numbers.specs.Tests.{allOf}
 use Rattle.program.specs.Variables.{inRange, literals, present, readOnly}
 use Rattle.program.specs.Statements.{Value, Literal, Variable, Statement, writes, targets, isHold}
-use Rattle.effects.specs.declared.Effect.{Effect}
-use Rattle.effects.specs.Effects.{effect}
+use Rattle.effects.specs.Deeds.{Deed, deed}
 use Rattle.machine.specs.declared.Machine.{Machine}
 
 -- Variables 1: a variable that a statement may write.
@@ -27,8 +26,8 @@ pub record Good {R : Type 0} (cells variables : ℕ) (place number : R → ℕ) 
   pub written : T (allOf (λ (v : R). writable variables (number v)) (writes s))
 
 -- Turn 7: at this machine a good statement acts, an `H x` exactly where `holds` says so.
-pub record Acts {R : Type 0} (cells variables : ℕ) (holds : ℕ → Bool) (place number : R → ℕ) (act : Machine → Effect) (m : Machine) : Type 0 where
+pub record Acts {R : Type 0} (cells variables : ℕ) (holds : ℕ → Bool) (place number : R → ℕ) (act : Machine → Deed) (m : Machine) : Type 0 where
   pub statement : Statement R
   pub good : Good cells variables place number statement
   pub hold : holds (m .next) ≡ isHold statement
-  pub does : act m ≡ effect place number (m .variables) (m .places .kept) (m .hold) statement
+  pub does : act m ≡ deed place number (m .variables) (m .places .kept) (m .hold) statement

@@ -9,7 +9,7 @@ use native.Mathlib.Omega.{arith}
 use Rattle.program.specs.declared.Cell.{Cell}
 use Rattle.program.specs.Cells.{same, statementOf}
 use Rattle.image.specs.Layout.{cellCount, cellAt}
-use Rattle.effects.specs.declared.Effect.{Effect}
+use Rattle.effects.specs.Deeds.{Deed}
 use Rattle.machine.specs.declared.Machine.{Machine}
 use Rattle.machine.specs.declared.Turned.{Turned}
 use Rattle.events.specs.Events.{badEvents}
@@ -48,7 +48,7 @@ module _ (s script : List ℕ) (last : ℕ) where
 
   -- One turn is taken.
   module _ (t k : ℕ) (m : Machine) (h : m .next < cellCount s) (l : t < last) {d : Turned} {n : ℕ} (er : SteppedBy s (cellCount s) script t k m d n) where
-    abbrev pub taken : Step Machine Effect Turned
+    abbrev pub taken : Step Machine Deed Turned
     taken = let here = reach t (eventsFrom script k) m .machine in record { turn = t; before = m; here = here; does = cellActs s here; came = d }
 
     pub rest-stopped : d .stops ≡ true → rest t k m ≡ before taken (ends 2)

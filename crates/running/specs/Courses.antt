@@ -4,16 +4,15 @@ use mathlib.Core.List.{List}
 use Prim.Native.Nat.{ℕ}
 use Rattle.program.specs.Cells.{same, statementOf}
 use Rattle.image.specs.Layout.{cellCount, cellAt, startValues}
-use Rattle.effects.specs.declared.Effect.{Effect}
-use Rattle.effects.specs.Effects.{effect}
+use Rattle.effects.specs.Deeds.{Deed, deed}
 use Rattle.machine.specs.declared.Machine.{Machine}
 use Rattle.machine.specs.Turn.{startMachine}
 use Rattle.events.specs.Events.{events}
 use Rattle.machine.specs.Run.{PlainTrace, Course, traceFrom, runFrom}
 
 -- Turn 7: what the statement at the machine's next cell does.
-unfoldable pub cellActs : List ℕ → Machine → Effect
-cellActs s m = effect same same (m .variables) (m .places .kept) (m .hold) (statementOf (cellAt s (m .next)))
+unfoldable pub cellActs : List ℕ → Machine → Deed
+cellActs s m = deed same same (m .variables) (m .places .kept) (m .hold) (statementOf (cellAt s (m .next)))
 
 -- Turn 6, Variables 3: the run of an image from its start, turn by turn, and how it went.
 unfoldable pub imageTrace : List ℕ → List ℕ → ℕ → PlainTrace
