@@ -10,8 +10,7 @@ use Rattle.program.specs.Cells.{noTarget, same, statementOf}
 use Rattle.text.specs.Forms.{Line}
 use Rattle.text.specs.Faults.{said, howMany, makesCell, placeOf, numberOf}
 use Rattle.image.specs.Layout.{cellCount, cellAt, startValues}
-use Rattle.effects.specs.declared.Effect.{Effect}
-use Rattle.effects.specs.Effects.{effect}
+use Rattle.effects.specs.Deeds.{Deed, deed}
 use Rattle.machine.specs.declared.Machine.{Machine}
 use Rattle.events.specs.declared.Event.{Event}
 use Rattle.machine.specs.Turn.{startMachine}
@@ -20,17 +19,17 @@ use Rattle.machine.proofs.Quiet.{happens-next}
 use Rattle.machine.proofs.Traces.{trace-same}
 use Rattle.translation.specs.Images.{imageOf, image, accepted}
 use Rattle.translation.specs.Places.{lineAt, starts}
-use Rattle.agreement.proofs.Meaning.{effect-cell}
+use Rattle.agreement.proofs.Meaning.{deed-cell}
 use Rattle.agreement.proofs.Sound.{Fine, fine}
 use Rattle.agreement.proofs.Records.{place-most, cell-count, start-values}
 use Rattle.agreement.proofs.Cells.{cell-at}
 
 -- What the next cell of an image does, what the next line of a text does.
-abbrev pub byCell : List ℕ → Machine → Effect
-byCell s m = effect same same (m .variables) (m .places .kept) (m .hold) (statementOf (cellAt s (m .next)))
+abbrev pub byCell : List ℕ → Machine → Deed
+byCell s m = deed same same (m .variables) (m .places .kept) (m .hold) (statementOf (cellAt s (m .next)))
 
-abbrev pub byLine : List Line → Machine → Effect
-byLine xs m = effect (placeOf xs) (numberOf xs) (m .variables) (m .places .kept) (m .hold) (lineAt xs (m .next))
+abbrev pub byLine : List Line → Machine → Deed
+byLine xs m = deed (placeOf xs) (numberOf xs) (m .variables) (m .places .kept) (m .hold) (lineAt xs (m .next))
 
 module _ (xs : List Line) (f : Fine xs) where
   -- no label has the place that stands for none
@@ -41,8 +40,8 @@ module _ (xs : List Line) (f : Fine xs) where
   -- a cell does what its line does
   pub same-act : (m : Machine) → m .next < howMany makesCell xs → byCell (imageOf xs) m ≡ byLine xs m
   same-act m h =
-      ap (λ c. effect same same (m .variables) (m .places .kept) (m .hold) (statementOf c)) (cell-at xs f (m .next) h)
-      ∙ effect-cell (placeOf xs) (numberOf xs) (m .variables) (m .places .kept) (m .hold) place-far (lineAt xs (m .next))
+      ap (λ c. deed same same (m .variables) (m .places .kept) (m .hold) (statementOf c)) (cell-at xs f (m .next) h)
+      ∙ deed-cell (placeOf xs) (numberOf xs) (m .variables) (m .places .kept) (m .hold) place-far (lineAt xs (m .next))
 
   pub same-turns : (left t : ℕ) (es : List Event) (m : Machine)
       → traceFrom (byCell (imageOf xs)) (cellCount (imageOf xs)) left t es m ≡ traceFrom (byLine xs) (howMany makesCell xs) left t es m

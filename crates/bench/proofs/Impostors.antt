@@ -11,11 +11,13 @@ use Rattle.numbers.specs.Bits as Bits
 use Rattle.numbers.specs.Bytes as B
 use Rattle.numbers.specs.Tests as Tests
 use Rattle.program.specs.Cells as Cells
+use Rattle.program.specs.Statements as Statements
 use Rattle.program.specs.Variables as Variables
 use Rattle.image.specs.Check as Check
 use Rattle.image.specs.Check.{checked}
 use Rattle.image.specs.Layout as Layout
 use Rattle.effects.specs.Effects as Effects
+use Rattle.effects.specs.Deeds as Deeds
 use Rattle.events.specs.Events as Events
 use Rattle.machine.specs.Happens as Happens
 use Rattle.events.specs.Events.{badScript, badEvents}
@@ -187,11 +189,11 @@ writes-nothing translate check run nothing d =
 
 -- The feeder's first turn, by computation: one record, and the next cell is 1.
 one-turn-records : getD (over (imageCourse feederImage twoArrivals 1) (fresh 240)) 12 0 ≡ 170
-unfolding Bits.digits32 Bits.signed32 Bits.eachDigit Bits.on32 B.bytes B.number B.field Tests.eqZ Tests.listed Tests.allOf Tests.anyOf Cells.noTarget Cells.operatorNumber Cells.comparisonNumber Cells.operatorOf Cells.comparisonOf Cells.operandOf Cells.jumpOf Cells.valueOf Cells.conditionOf Cells.holdOf Cells.statementBy Cells.statementOf Variables.rangeOf Variables.startVariables Variables.allInputs Layout.operandNumber Layout.trailerPlace Layout.cellCount Layout.labelCount Layout.variableCount Layout.operandAt Layout.cellAt Layout.labelPlace Layout.variablePlace Layout.startValue Layout.startValues Layout.firstLabelPlace Effects.read Effects.storing Effects.storingResult Effects.moving Effects.value Effects.effect Events.eventAt Events.eventCount Events.events Happens.happens Events.recordBytes flatMap R.reachBy R.traceOn R.finally R.courseOf Turn.noHandler Turn.startMachine Turn.keep Turn.lastPlace Turn.movingBit Turn.inMotion Turn.turn Courses.cellActs Courses.imageCourse R.over Answers.stateOf
+unfolding Bits.digits32 Bits.signed32 Bits.eachDigit Bits.on32 B.bytes B.number B.field Tests.eqZ Tests.listed Tests.allOf Tests.anyOf Cells.noTarget Cells.operatorNumber Cells.comparisonNumber Cells.operatorOf Cells.comparisonOf Cells.operandOf Cells.jumpOf Cells.valueOf Cells.conditionOf Cells.holdOf Cells.statementBy Cells.statementOf Statements.operands Variables.rangeOf Variables.startVariables Variables.allInputs Layout.operandNumber Layout.trailerPlace Layout.cellCount Layout.labelCount Layout.variableCount Layout.operandAt Layout.cellAt Layout.labelPlace Layout.variablePlace Layout.startValue Layout.startValues Layout.firstLabelPlace Effects.read Effects.storing Effects.storingResult Effects.moving Effects.value Effects.effect Deeds.inError Deeds.clears Deeds.isER Deeds.readsER Events.eventAt Events.eventCount Events.events Happens.happens Events.recordBytes flatMap R.reachBy R.traceOn R.finally R.courseOf Turn.noHandler Turn.startMachine Turn.keep Turn.lastPlace Turn.movingBit Turn.inMotion Turn.applied Turn.clearing Turn.turn Courses.cellActs Courses.imageCourse R.over Answers.stateOf
 one-turn-records = refl
 
 one-turn-next : stateOf (imageCourse feederImage twoArrivals 1 .machine) .next ≡ 1
-unfolding Bits.digits32 Bits.signed32 Bits.eachDigit Bits.on32 B.bytes B.number B.field Tests.eqZ Tests.listed Tests.allOf Tests.anyOf Cells.noTarget Cells.operatorNumber Cells.comparisonNumber Cells.operatorOf Cells.comparisonOf Cells.operandOf Cells.jumpOf Cells.valueOf Cells.conditionOf Cells.holdOf Cells.statementBy Cells.statementOf Variables.rangeOf Variables.startVariables Variables.allInputs Layout.operandNumber Layout.trailerPlace Layout.cellCount Layout.labelCount Layout.variableCount Layout.operandAt Layout.cellAt Layout.labelPlace Layout.variablePlace Layout.startValue Layout.startValues Layout.firstLabelPlace Effects.read Effects.storing Effects.storingResult Effects.moving Effects.value Effects.effect Events.eventAt Events.eventCount Events.events Happens.happens Events.recordBytes flatMap R.reachBy R.traceOn R.finally R.courseOf Turn.noHandler Turn.startMachine Turn.keep Turn.lastPlace Turn.movingBit Turn.inMotion Turn.turn Courses.cellActs Courses.imageCourse R.over Answers.stateOf
+unfolding Bits.digits32 Bits.signed32 Bits.eachDigit Bits.on32 B.bytes B.number B.field Tests.eqZ Tests.listed Tests.allOf Tests.anyOf Cells.noTarget Cells.operatorNumber Cells.comparisonNumber Cells.operatorOf Cells.comparisonOf Cells.operandOf Cells.jumpOf Cells.valueOf Cells.conditionOf Cells.holdOf Cells.statementBy Cells.statementOf Statements.operands Variables.rangeOf Variables.startVariables Variables.allInputs Layout.operandNumber Layout.trailerPlace Layout.cellCount Layout.labelCount Layout.variableCount Layout.operandAt Layout.cellAt Layout.labelPlace Layout.variablePlace Layout.startValue Layout.startValues Layout.firstLabelPlace Effects.read Effects.storing Effects.storingResult Effects.moving Effects.value Effects.effect Deeds.inError Deeds.clears Deeds.isER Deeds.readsER Events.eventAt Events.eventCount Events.events Happens.happens Events.recordBytes flatMap R.reachBy R.traceOn R.finally R.courseOf Turn.noHandler Turn.startMachine Turn.keep Turn.lastPlace Turn.movingBit Turn.inMotion Turn.applied Turn.clearing Turn.turn Courses.cellActs Courses.imageCourse R.over Answers.stateOf
 one-turn-next = refl
 
 -- A runner that takes the first turn and no other: the records of the first turn alone, with any answer; and the state after the first turn, with any records.

@@ -13,4 +13,5 @@ pub mod Takers
 pub mod Promised
 pub mod States
 pub mod OverOrUnder
+pub mod ReadingER
 pub mod Later

@@ -60,15 +60,15 @@ module _ (s : List ℕ) (m : Machine) (h : AtCell s m) where
   cell-has : (a : Statement ℕ) → statementOf (cellAt s (m .next)) ≡ a → Each (Read s) (operands a)
   cell-has a e = subst (λ (b : Statement ℕ). Each (Read s) (operands b)) e (stands s (m .next) (accepted s (h .accepted) .layout (m .next) (h .here)) .resolved .reads)
 
-  cell-does : (a : Statement ℕ) → statementOf (cellAt s (m .next)) ≡ a → Neither (effect same same (m .variables) (m .places .kept) (m .hold) a) → Neither (cellActs s m)
+  cell-does : (a : Statement ℕ) → statementOf (cellAt s (m .next)) ≡ a → Neither (effect same same (m .variables) (m .places .kept) (m .hold) a) → Neither (cellActs s m .effect)
   unfolding cellActs
   cell-does a e n = subst (λ (b : Statement ℕ). Neither (effect same same (m .variables) (m .places .kept) (m .hold) b)) (sym e) n
 
-  cell-division : (v : ℕ) (x y : Value ℕ) → statementOf (cellAt s (m .next)) ≡ SetWith v x Divided y → Neither (cellActs s m)
+  cell-division : (v : ℕ) (x y : Value ℕ) → statementOf (cellAt s (m .next)) ≡ SetWith v x Divided y → Neither (cellActs s m .effect)
   unfolding operands
   cell-division v x y e = cell-does (SetWith v x Divided y) e (division-inside (h .ruled) same same v x y (cell-reads s x (cell-has (SetWith v x Divided y) e .0)))
 
-  cell-target : (x : Value ℕ) → statementOf (cellAt s (m .next)) ≡ MA x → Neither (cellActs s m)
+  cell-target : (x : Value ℕ) → statementOf (cellAt s (m .next)) ≡ MA x → Neither (cellActs s m .effect)
   unfolding operands
   cell-target x e = cell-does (MA x) e (target-inside (h .ruled) same same x (cell-reads s x (cell-has (MA x) e .0)))
 
@@ -80,18 +80,18 @@ module _ (text : List ℕ) (m : Machine) (h : AtLine text m) where
       (line-acceptable (said text) (fine text (h .fine)) (m .next) (h .here) .reads)
 
   line-does : (a : Statement Name) → lineAt (said text) (m .next) ≡ a
-      → Neither (effect (placeOf (said text)) (numberOf (said text)) (m .variables) (m .places .kept) (m .hold) a) → Neither (lineActs (said text) m)
+      → Neither (effect (placeOf (said text)) (numberOf (said text)) (m .variables) (m .places .kept) (m .hold) a) → Neither (lineActs (said text) m .effect)
   unfolding lineActs
   line-does a e n =
       subst (λ (b : Statement Name). Neither (effect (placeOf (said text)) (numberOf (said text)) (m .variables) (m .places .kept) (m .hold) b)) (sym e) n
 
-  line-division : (v : Name) (x y : Value Name) → lineAt (said text) (m .next) ≡ SetWith v x Divided y → Neither (lineActs (said text) m)
+  line-division : (v : Name) (x y : Value Name) → lineAt (said text) (m .next) ≡ SetWith v x Divided y → Neither (lineActs (said text) m .effect)
   unfolding operands
   line-division v x y e =
       line-does (SetWith v x Divided y) e
       (division-inside (h .ruled) (placeOf (said text)) (numberOf (said text)) v x y (line-reads text x (line-has (SetWith v x Divided y) e .0)))
 
-  line-target : (x : Value Name) → lineAt (said text) (m .next) ≡ MA x → Neither (lineActs (said text) m)
+  line-target : (x : Value Name) → lineAt (said text) (m .next) ≡ MA x → Neither (lineActs (said text) m .effect)
   unfolding operands
   line-target x e = line-does (MA x) e (target-inside (h .ruled) (placeOf (said text)) (numberOf (said text)) x (line-reads text x (line-has (MA x) e .0)))
 

@@ -5,8 +5,7 @@ use Prim.Native.Nat.{ℕ}
 use Rattle.text.specs.Forms.{Line}
 use Rattle.text.specs.Faults.{said, howMany, makesCell, placeOf, numberOf}
 use Rattle.translation.specs.Places.{lineAt, starts}
-use Rattle.effects.specs.declared.Effect.{Effect}
-use Rattle.effects.specs.Effects.{effect}
+use Rattle.effects.specs.Deeds.{Deed, deed}
 use Rattle.machine.specs.declared.Machine.{Machine}
 use Rattle.machine.specs.Turn.{startMachine}
 use Rattle.events.specs.Events.{events}
@@ -15,8 +14,8 @@ use Rattle.bench.specs.Answers.{ranAs}
 use Rattle.bench.specs.declared.Ran.{Ran}
 
 -- Turn 7: what the line at the machine's next place does; a label's place and a variable's number are found by name.
-unfoldable pub lineActs : List Line → Machine → Effect
-lineActs text m = effect (placeOf text) (numberOf text) (m .variables) (m .places .kept) (m .hold) (lineAt text (m .next))
+unfoldable pub lineActs : List Line → Machine → Deed
+lineActs text m = deed (placeOf text) (numberOf text) (m .variables) (m .places .kept) (m .hold) (lineAt text (m .next))
 
 -- Turn 6, Text 9: the text's own run from its start, turn by turn, and how it went.
 unfoldable pub linesTrace : List Line → List ℕ → ℕ → PlainTrace

@@ -1,18 +1,19 @@
 -- Document 02: what a request asks of its calls, over any calls, as the demands of Demands.antt.
 -- Assumes nothing.
 use mathlib.Core.Path.{_≡_}
-use mathlib.Core.Bool.{true, false, _||_}
+use mathlib.Core.Bool.{Bool, true, false, _||_}
 use mathlib.Core.List.{List, [], _∷_, _++_}
-use mathlib.Core.Logic.{_↔_}
+use mathlib.Core.Logic.{_↔_, _⊎_}
 use Prim.Native.Nat.{ℕ, _+_, _≤_, _<_}
 use lib.Dec.{T}
 use lib.IntN.{ℤ, pos}
 use lib.ListN.{length, take, drop, getD}
 use Rattle.numbers.specs.Bytes.{ascii}
-use Rattle.numbers.specs.Tests.{Lowest, NoRow, between, eqZ}
+use Rattle.numbers.specs.Tests.{Lowest, NoRow, anyOf, between, eqList, eqZ}
 use Rattle.program.specs.Names.{Name, twoCharacters, reserved, newlyReserved, freeName}
 use Rattle.program.specs.Variables.{inRange, literals}
-use Rattle.program.specs.Statements.{Value, Statement, Divided, SetWith, MA, isHold}
+use Rattle.program.specs.declared.Operand.the-variants as O
+use Rattle.program.specs.Statements.{Value, Literal, Variable, Statement, Divided, SetWith, MA, operands, isHold}
 use Rattle.program.specs.Cells.{same, statementOf}
 use Rattle.text.specs.Faults.{overlong, faultsOf, said, howMany, makesCell, makesVariable, placeOf, numberOf}
 use Rattle.refusals.specs.Lines.{DeclaredAt, UsedAt}
@@ -22,9 +23,14 @@ use Rattle.translation.specs.Images.{accepted}
 use Rattle.translation.specs.Places.{lineAt}
 use Rattle.effects.specs.Effects.{read}
 use Rattle.effects.specs.Results.{results, OverOrUnder, Neither}
+use Rattle.events.specs.declared.Event.{Event}
+use Rattle.events.specs.Events.{goodEvent}
 use Rattle.machine.specs.declared.Machine.{Machine}
+use Rattle.machine.specs.Turn.{turn}
+use Rattle.machine.specs.Happens.{happens}
 use Rattle.running.specs.Courses.{cellActs}
 use Rattle.rules.specs.Rules.{Ruled}
+use Rattle.rules.specs.Flags.{Flags}
 use Rattle.printing.specs.Listing.{listing, plain}
 use Rattle.bench.specs.Translating.{answered}
 use Rattle.bench.specs.Listings.{listAnswered, listedAs, listedInto}
@@ -91,6 +97,31 @@ pub record AtLine (text : List ℕ) (m : Machine) : Type 0 where
   pub ruled : Ruled (howMany makesCell (said text)) (howMany makesVariable (said text)) (λ k. isHold (lineAt (said text) k)) m
   pub here : m .next < howMany makesCell (said text)
 
+-- Q-2 3: an operand that is written ER.
+unfoldable pub writtenER : Value Name → Bool
+writtenER (Literal z) = false
+writtenER (Variable w) = eqList w (ascii "ER")
+
+-- Q-2, over a translator, a checker and a runner. The request changes what a turn does, and no call: so it asks for the demands, whose runs are made up of the
+-- turns of cells and of lines, and says what these do to ER (10) and EF (15).
+pub record Request2 (translate : Translate) (check : Check) (run : Run) : Type 0 where
+  pub demand-1 : Demand1 translate check run
+  pub demand-2 : Demand2 translate check run
+  pub demand-3 : Demand3 translate run
+  -- Turn 11, Q-2 3, Q-2 4: a turn of a cell changes ER and EF just as `Flags` says, by its effect and by whether it reads ER; and so does a turn of a line (Q-2 5).
+  pub cell-flags : (s : List ℕ) (m : Machine) → AtCell s m → Flags (cellActs s m) (m .variables) (turn (cellCount s) (cellActs s m) m .machine .variables)
+  pub line-flags : (text : List ℕ) (m : Machine) → AtLine text m
+      → Flags (lineActs (said text) m) (m .variables) (turn (howMany makesCell (said text)) (lineActs (said text) m) m .machine .variables)
+  -- Q-2 3: a cell reads ER exactly if its left or its right operand is variable 10, a line exactly if an operand of it is written ER; but neither does
+  -- while turns of a hold are to come.
+  pub cell-reads : (s : List ℕ) (m : Machine) → AtCell s m
+      → (cellActs s m .reads ≡ true) ↔ ((m .hold ≡ 0) × ((cellAt s (m .next) .left ≡ O.Variable 10) ⊎ (cellAt s (m .next) .right ≡ O.Variable 10)))
+  pub line-reads : (text : List ℕ) (m : Machine) → AtLine text m
+      → (lineActs (said text) m .reads ≡ true) ↔ ((m .hold ≡ 0) × T (anyOf writtenER (operands (lineAt (said text) (m .next)))))
+  -- Turn 11: an event changes neither.
+  pub event-flags : (e : Event) (m : Machine) → T (goodEvent e)
+      → (read (happens e m .variables) 10 ≡ read (m .variables) 10) × (read (happens e m .variables) 15 ≡ read (m .variables) 15)
+
 -- Q-6, over a translator, a checker and a runner. The request changes what a statement does, and no call: so it asks for the demands, whose runs are made up of
 -- what a cell does (`cellActs`) and what a line does (`lineActs`), and says what these two do.
 pub record Request6 (translate : Translate) (check : Check) (run : Run) : Type 0 where
@@ -99,15 +130,15 @@ pub record Request6 (translate : Translate) (check : Check) (run : Run) : Type 0
   pub demand-3 : Demand3 translate run
   -- Q-6 2: on every machine a cell is in error 109 exactly if what its statement comes to is below the literal range, in error 101 exactly if it is above;
   -- and so is a line.
-  pub cell-tells : (s : List ℕ) (m : Machine) → OverOrUnder (comesTo same same m (statementOf (cellAt s (m .next)))) (cellActs s m)
+  pub cell-tells : (s : List ℕ) (m : Machine) → OverOrUnder (comesTo same same m (statementOf (cellAt s (m .next)))) (cellActs s m .effect)
   pub line-tells : (text : List ℕ) (m : Machine)
-      → OverOrUnder (comesTo (placeOf (said text)) (numberOf (said text)) m (lineAt (said text) (m .next))) (lineActs (said text) m)
+      → OverOrUnder (comesTo (placeOf (said text)) (numberOf (said text)) m (lineAt (said text) (m .next))) (lineActs (said text) m .effect)
   -- Neither is ever the error of a division or of an MA.
-  pub cell-divides : (s : List ℕ) (m : Machine) → AtCell s m → (v : ℕ) (x y : Value ℕ) → statementOf (cellAt s (m .next)) ≡ SetWith v x Divided y → Neither (cellActs s m)
-  pub cell-moves : (s : List ℕ) (m : Machine) → AtCell s m → (x : Value ℕ) → statementOf (cellAt s (m .next)) ≡ MA x → Neither (cellActs s m)
+  pub cell-divides : (s : List ℕ) (m : Machine) → AtCell s m → (v : ℕ) (x y : Value ℕ) → statementOf (cellAt s (m .next)) ≡ SetWith v x Divided y → Neither (cellActs s m .effect)
+  pub cell-moves : (s : List ℕ) (m : Machine) → AtCell s m → (x : Value ℕ) → statementOf (cellAt s (m .next)) ≡ MA x → Neither (cellActs s m .effect)
   pub line-divides : (text : List ℕ) (m : Machine) → AtLine text m → (v : Name) (x y : Value Name) → lineAt (said text) (m .next) ≡ SetWith v x Divided y
-      → Neither (lineActs (said text) m)
-  pub line-moves : (text : List ℕ) (m : Machine) → AtLine text m → (x : Value Name) → lineAt (said text) (m .next) ≡ MA x → Neither (lineActs (said text) m)
+      → Neither (lineActs (said text) m .effect)
+  pub line-moves : (text : List ℕ) (m : Machine) → AtLine text m → (x : Value Name) → lineAt (said text) (m .next) ≡ MA x → Neither (lineActs (said text) m .effect)
   -- Turn 5, Q-6 2: in no answer, refused or not, is ER (10) anything but 0, 101 to 106, or 109.
   pub error-number : (s script : List ℕ) (budget : ℕ) (buffer : List ℕ)
       → let er = read (run s script budget buffer .answer .state .variables) 10 in T (eqZ er (pos 0) || (between (pos 101) (pos 106) er || eqZ er (pos 109)))

@@ -1,4 +1,4 @@
--- Document 01, "Bench sheet": its rows a to l in one table, which holds by computation; row f by Q-6 3.
+-- Document 01, "Bench sheet": its rows a to l in one table, which holds by computation; row f by Q-6 3, and a row more for Q-2 3.
 -- Assumes nothing.
 use mathlib.Core.Path.{_≡_, refl}
 use mathlib.Core.List.{List, [], _∷_, _++_}
@@ -23,6 +23,7 @@ use Rattle.image.specs.Check as Check
 use Rattle.image.specs.Layout as Layout
 use Rattle.effects.specs.Errors as Errors
 use Rattle.effects.specs.Effects as Effects
+use Rattle.effects.specs.Deeds as Deeds
 use Rattle.events.specs.Events as Events
 use Rattle.machine.specs.Happens as Happens
 use Rattle.machine.specs.Run as Run
@@ -160,6 +161,12 @@ trailer2 = 32 ∷ 0 ∷ 0 ∷ 0 ∷ 2 ∷ 0 ∷ 0 ∷ 0 ∷ 0 ∷ 0 ∷ 1 ∷ 0 
 abbrev pub lowestImage : List ℕ
 lowestImage = 0x02 ∷ 0x01 ∷ 0x07 ∷ 0x05 ∷ 0xFF ∷ 0xFF ∷ 0xFF ∷ 0x7F ∷ 0xFF ∷ 0xFF ∷ 0xFF ∷ 0xFF ∷ 0x00 ∷ 0x00 ∷ 0x00 ∷ 0x00 ∷ trailer1
 
+-- The image of `RT`, an error 105, and `R1=EF+ER`.
+abbrev pub readingImage : List ℕ
+readingImage =
+    padded (0x07 ∷ [])
+    ++ (0x02 ∷ 0x01 ∷ 0x01 ∷ 0x0A ∷ 0x0F ∷ 0x00 ∷ 0x00 ∷ 0x00 ∷ 0x0A ∷ 0x00 ∷ 0x00 ∷ 0x00 ∷ 0x00 ∷ 0x00 ∷ 0x00 ∷ 0x00 ∷ trailer2)
+
 -- The state after an error in the first of so many cells.
 abbrev pub erred : ℕ → ℕ → State
 erred error cells = next cells (variable 10 (pos error) (variable 15 (pos 1) start))
@@ -197,6 +204,8 @@ sheet =
     (trial [] 5 1 1 1 (0 ∷ 0 ∷ 0 ∷ 0 ∷ 6 ∷ 0 ∷ 0 ∷ 0 ∷ 103 ∷ 0 ∷ 0 ∷ 0 ∷ []) (erred 103 1) ∷ [])
     ∷ row "l" (ascii "VI=767999") (answer 0 0 32) (padded (0x01 ∷ 0x08 ∷ 0x00 ∷ 0x01 ∷ 0xFF ∷ 0xB7 ∷ 0x0B ∷ []) ++ trailer1)
     (trial [] 5 1 1 0 [] (next 1 (variable 8 (pos 767999) start)) ∷ [])
+    ∷ row "Q-2 3" (ascii "RT\nR1=EF+ER") (answer 0 0 48) readingImage
+    (trial [] 5 1 2 1 (0 ∷ 0 ∷ 0 ∷ 0 ∷ 6 ∷ 0 ∷ 0 ∷ 0 ∷ 105 ∷ 0 ∷ 0 ∷ 0 ∷ []) (next 2 (variable 10 (pos 105) (variable 1 (pos 106) start))) ∷ [])
     ∷ []
 
 -- A run of the row's image and of its text, each into a buffer of just the size required.
@@ -219,5 +228,5 @@ Holds r =
     × Each (RunsAs r) (r .trials)
 
 pub sheet-holds : Each Holds sheet
-unfolding Bits.digits32 Bits.signed32 Bits.eachDigit Bits.on32 Bits.and32 Bits.or32 Bits.xor32 Bytes.bytes Bytes.number Bytes.field Bytes.ascii Tests.eqZ Tests.eqList Tests.allOf Tests.anyOf Tests.allBelow Tests.anyBelow Tests.firstBelow Tests.listed Tests.numbered Tests.lowest List.flatMap Cells.noTarget Cells.operatorNumber Cells.comparisonNumber Cells.operatorOf Cells.comparisonOf Cells.operandOf Cells.jumpOf Cells.cellOf Cells.valueOf Cells.conditionOf Cells.holdOf Cells.statementBy Cells.statementOf Names.letter Names.digit Names.wordCharacter Names.mnemonics Names.variableNames Names.paperVariable Names.paperWord Names.twoCharacters Names.userName DriveWords.driveWords Names.reserved Names.freeName Statements.compared Statements.operands Statements.writes Statements.targets Variables.rangeOf Variables.startVariables Variables.allInputs Variables.mostCells Variables.mostLabels Variables.mostVariables Faults.overlong Faults.longLine Faults.badForm Faults.tooBig Faults.bigValue Faults.bigIn Faults.bigLiteral Faults.declares Faults.reservedName Faults.heard Faults.makesCell Faults.makesLabel Faults.makesVariable Faults.howMany Faults.declaresIt Faults.repeated Faults.tooMany Faults.firstMakes Faults.unknownVariable Faults.unknownValue Faults.unknownIn Faults.undeclared Faults.readOnlyWritten Faults.faults Faults.faultsFrom Faults.said Faults.textFaults Faults.firstFrom Faults.firstFault Faults.placeOf Faults.rankOf Faults.numberOf Forms.operatorSign Forms.comparisonSign Forms.meant Forms.operatorMeant Forms.comparisonMeant Forms.digits Forms.decimal Forms.literal Forms.variableName Forms.variable Forms.operand Forms.put Forms.word Forms.sign Forms.takes Forms.fill Forms.forms Forms.byForm Forms.statement Forms.reading Lines.ontoFirstLine Lines.lines Tokens.printable Tokens.uncommented Tokens.joins Tokens.ontoFirstToken Tokens.tokens Check.badLength Check.badEdition Check.badTrailer Check.layouts Check.goodWritten Check.goodSelector Check.goodOperand Check.goodTarget Check.fits Check.badCell Check.badCells Check.recordPlace Check.recordName Check.badName Check.badTarget Check.badStart Check.badRecords Check.imageFaults Check.checked Layout.shape Layout.operandNumber Layout.cellBytes Layout.labelBytes Layout.variableBytes Layout.imageLength Layout.trailerBytes Layout.trailerPlace Layout.firstLabelPlace Layout.cellCount Layout.labelCount Layout.variableCount Layout.edition Layout.wholeLength Layout.operandAt Layout.cellAt Layout.labelPlace Layout.labelTarget Layout.variablePlace Layout.startValue Layout.startValues Layout.nameAt Errors.resultError Effects.read Effects.storing Effects.storingResult Effects.operate Effects.zeroDivisor Effects.storingWith Effects.compares Effects.calling Effects.returning Effects.waiting Effects.holding Effects.moving Effects.slewing Effects.value Effects.holds Effects.printing Effects.branching Effects.callingIf Effects.effect Events.eventAt Events.eventCount Events.events Happens.input Happens.arrivedBy Happens.happens Events.goodEvent Events.badScript Events.badEvent Events.badEvents Events.firstBadEvent Events.recordBytes Run.reachBy Run.traceOn Run.finally Run.courseOf Turn.noHandler Turn.startMachine Turn.stored Turn.storeRecord Turn.keep Turn.release Turn.lastPlace Turn.movingBit Turn.inMotion Turn.slew Turn.called Turn.returned Turn.held Turn.flagged Turn.failed Turn.turn Places.lineAt Places.starts Following.lineActs Following.linesCourse Following.textCourse Following.followed Following.followedInto Running.checkedAs Courses.cellActs Courses.imageCourse Answers.motionNumber Answers.motionValue Answers.stateOf Answers.noState Answers.ranAs Answers.refusedAs Running.bigBudget Running.smallRoom Running.runFaults Running.runRefusal Running.refusalIndex Running.ran Run.over Running.ranInto Images.cellPart Images.labelPart Images.variablePart Images.imageOf Images.image Images.accepted Translating.tooShort Translating.translated Translating.translatedInto
-sheet-holds = ((refl, refl, tt), ((refl, refl, ((refl, refl, refl, refl), tt)), ((refl, refl, ((refl, refl, refl, refl), ((refl, refl, refl, refl), tt))), ((refl, refl, ((refl, refl, refl, refl), tt)), ((refl, refl, ((refl, refl, refl, refl), tt)), ((refl, refl, ((refl, refl, refl, refl), tt)), ((refl, refl, ((refl, refl, refl, refl), tt)), ((refl, refl, ((refl, refl, refl, refl), tt)), ((refl, refl, ((refl, refl, refl, refl), tt)), ((refl, refl, tt), ((refl, refl, ((refl, refl, refl, refl), tt)), ((refl, refl, ((refl, refl, refl, refl), tt)), ((refl, refl, ((refl, refl, refl, refl), tt)), tt)))))))))))))
+unfolding Bits.digits32 Bits.signed32 Bits.eachDigit Bits.on32 Bits.and32 Bits.or32 Bits.xor32 Bytes.bytes Bytes.number Bytes.field Bytes.ascii Tests.eqZ Tests.eqList Tests.allOf Tests.anyOf Tests.allBelow Tests.anyBelow Tests.firstBelow Tests.listed Tests.numbered Tests.lowest List.flatMap Cells.noTarget Cells.operatorNumber Cells.comparisonNumber Cells.operatorOf Cells.comparisonOf Cells.operandOf Cells.jumpOf Cells.cellOf Cells.valueOf Cells.conditionOf Cells.holdOf Cells.statementBy Cells.statementOf Names.letter Names.digit Names.wordCharacter Names.mnemonics Names.variableNames Names.paperVariable Names.paperWord Names.twoCharacters Names.userName DriveWords.driveWords Names.reserved Names.freeName Statements.compared Statements.operands Statements.writes Statements.targets Variables.rangeOf Variables.startVariables Variables.allInputs Variables.mostCells Variables.mostLabels Variables.mostVariables Faults.overlong Faults.longLine Faults.badForm Faults.tooBig Faults.bigValue Faults.bigIn Faults.bigLiteral Faults.declares Faults.reservedName Faults.heard Faults.makesCell Faults.makesLabel Faults.makesVariable Faults.howMany Faults.declaresIt Faults.repeated Faults.tooMany Faults.firstMakes Faults.unknownVariable Faults.unknownValue Faults.unknownIn Faults.undeclared Faults.readOnlyWritten Faults.faults Faults.faultsFrom Faults.said Faults.textFaults Faults.firstFrom Faults.firstFault Faults.placeOf Faults.rankOf Faults.numberOf Forms.operatorSign Forms.comparisonSign Forms.meant Forms.operatorMeant Forms.comparisonMeant Forms.digits Forms.decimal Forms.literal Forms.variableName Forms.variable Forms.operand Forms.put Forms.word Forms.sign Forms.takes Forms.fill Forms.forms Forms.byForm Forms.statement Forms.reading Lines.ontoFirstLine Lines.lines Tokens.printable Tokens.uncommented Tokens.joins Tokens.ontoFirstToken Tokens.tokens Check.badLength Check.badEdition Check.badTrailer Check.layouts Check.goodWritten Check.goodSelector Check.goodOperand Check.goodTarget Check.fits Check.badCell Check.badCells Check.recordPlace Check.recordName Check.badName Check.badTarget Check.badStart Check.badRecords Check.imageFaults Check.checked Layout.shape Layout.operandNumber Layout.cellBytes Layout.labelBytes Layout.variableBytes Layout.imageLength Layout.trailerBytes Layout.trailerPlace Layout.firstLabelPlace Layout.cellCount Layout.labelCount Layout.variableCount Layout.edition Layout.wholeLength Layout.operandAt Layout.cellAt Layout.labelPlace Layout.labelTarget Layout.variablePlace Layout.startValue Layout.startValues Layout.nameAt Errors.resultError Effects.read Effects.storing Effects.storingResult Effects.operate Effects.zeroDivisor Effects.storingWith Effects.compares Effects.calling Effects.returning Effects.waiting Effects.holding Effects.moving Effects.slewing Effects.value Effects.holds Effects.printing Effects.branching Effects.callingIf Effects.effect Deeds.inError Deeds.clears Deeds.isER Deeds.readsER Events.eventAt Events.eventCount Events.events Happens.input Happens.arrivedBy Happens.happens Events.goodEvent Events.badScript Events.badEvent Events.badEvents Events.firstBadEvent Events.recordBytes Run.reachBy Run.traceOn Run.finally Run.courseOf Turn.noHandler Turn.startMachine Turn.stored Turn.storeRecord Turn.keep Turn.release Turn.lastPlace Turn.movingBit Turn.inMotion Turn.slew Turn.called Turn.returned Turn.held Turn.flagged Turn.failed Turn.applied Turn.clearing Turn.turn Places.lineAt Places.starts Following.lineActs Following.linesCourse Following.textCourse Following.followed Following.followedInto Running.checkedAs Courses.cellActs Courses.imageCourse Answers.motionNumber Answers.motionValue Answers.stateOf Answers.noState Answers.ranAs Answers.refusedAs Running.bigBudget Running.smallRoom Running.runFaults Running.runRefusal Running.refusalIndex Running.ran Run.over Running.ranInto Images.cellPart Images.labelPart Images.variablePart Images.imageOf Images.image Images.accepted Translating.tooShort Translating.translated Translating.translatedInto
+sheet-holds = ((refl, refl, tt), ((refl, refl, ((refl, refl, refl, refl), tt)), ((refl, refl, ((refl, refl, refl, refl), ((refl, refl, refl, refl), tt))), ((refl, refl, ((refl, refl, refl, refl), tt)), ((refl, refl, ((refl, refl, refl, refl), tt)), ((refl, refl, ((refl, refl, refl, refl), tt)), ((refl, refl, ((refl, refl, refl, refl), tt)), ((refl, refl, ((refl, refl, refl, refl), tt)), ((refl, refl, ((refl, refl, refl, refl), tt)), ((refl, refl, tt), ((refl, refl, ((refl, refl, refl, refl), tt)), ((refl, refl, ((refl, refl, refl, refl), tt)), ((refl, refl, ((refl, refl, refl, refl), tt)), ((refl, refl, ((refl, refl, refl, refl), tt)), tt))))))))))))))

@@ -1,0 +1,187 @@
+-- Q-2: what the request asks holds of all calls that meet the demands, the bench's own among them; and of no runner that leaves EF, or clears it too soon, or clears ER.
+-- Assumes nothing.
+use mathlib.Core.Path.{_≡_, refl, sym, ap, _∙_, subst}
+use mathlib.Core.Bool.{Bool, true, _&&_, _||_, not}
+use mathlib.Core.List.{List, [], _∷_}
+use mathlib.Core.Logic.{_↔_, _⊎_, inl, inr, ⊎-elim}
+use Prim.Native.Nat.{ℕ, _+_}
+use native.Mathlib.Omega.{arith}
+use borrow.Author.Tests.{eq-eqb, ne-eqb}
+use lib.Dec.{T, eqb, eqb→eq, eqb-refl, leb, le→leb}
+use lib.IntN.{ℤ, pos, natAbs}
+use Rattle.numbers.specs.Bytes.{ascii}
+use Rattle.numbers.specs.Tests.{anyOf, allOf, eqList, numbered}
+use Rattle.numbers.proofs.Truth.{is-true, true-is, both, both-of, either, left-of, right-of, if-same, same-test}
+use Rattle.numbers.proofs.Tests.{each-then, all-each, eqList-eq, numbered-all}
+use Rattle.program.specs.declared.Operand.{Operand}
+use Rattle.program.specs.declared.Operand.the-variants as O
+use Rattle.program.specs.Names.{Name, variableNames, paperVariable}
+use Rattle.program.specs.Variables.{present, readOnly}
+use Rattle.program.specs.Statements.{Value, Literal, Variable, operands, writes, targets, isHold}
+use Rattle.program.specs.Cells.{same, valueOf, statementOf}
+use Rattle.text.specs.Forms.{Line}
+use Rattle.text.specs.Faults.{said, howMany, makesCell, makesVariable, rankOf, placeOf, numberOf}
+use Rattle.image.specs.Layout.{cellCount, variableCount, cellAt}
+use Rattle.image.proofs.Accepted.{Names, Writes}
+use Rattle.translation.specs.Images.{imageOf}
+use Rattle.translation.specs.Places.{lineAt}
+use Rattle.effects.specs.Effects.{read}
+use Rattle.effects.specs.Deeds.{isER, readsER}
+use Rattle.effects.proofs.Reading.{reads-fields}
+use Rattle.machine.specs.declared.Machine.{Machine}
+use Rattle.machine.specs.Turn.{turn}
+use Rattle.running.specs.Courses.{cellActs}
+use Rattle.rules.specs.Good.{writable, Good}
+use Rattle.rules.specs.Flags.{Flags}
+use Rattle.rules.proofs.Flags.{flags, flags-event}
+use Rattle.listing.proofs.Accepted.{accepted}
+use Rattle.listing.proofs.Recorded.{recorded}
+use Rattle.listing.proofs.Resolved.{stands}
+use Rattle.agreement.proofs.Sound.{fine}
+use Rattle.agreement.proofs.Records.{place-most}
+use Rattle.agreement.proofs.Cells.{line-acceptable}
+use Rattle.bench.specs.declared.Ran.{Ran}
+use Rattle.bench.specs.Following.{lineActs}
+use Rattle.bench.specs.Demands.{Translate, Check, Outcome, Run, Demand1, Demand2, Demand3, ourTranslate, ourCheck, ourRun}
+use Rattle.bench.specs.Sheet.{start, variable, next, fresh, readingImage, sheet-holds}
+use Rattle.bench.specs.Requests.{AtCell, AtLine, writtenER, Request2}
+use Rattle.bench.proofs.Demands.{demand1, demand2, demand3}
+use Rattle.bench.proofs.Decided.{run-decided}
+use Rattle.bench.proofs.States.{good-cell}
+
+-- A test beside whether a number is 0, and the two of them as facts.
+zero-and : (n : ℕ) (t : Bool) {P : Type 0} → (T t → P) → (P → T t) → ((eqb n 0 && t) ≡ true) ↔ ((n ≡ 0) × P)
+zero-and n t f g = (
+  λ e. let h = both (eqb n 0) t (true-is (eqb n 0 && t) e) in (eqb→eq n 0 (h .0), f (h .1)),
+  λ h. is-true (eqb n 0 && t) (both-of (eqb n 0) t (subst (λ (k : ℕ). T (eqb k 0)) (sym (h .0)) (eqb-refl 0)) (g (h .1))),
+)
+
+-- Image 6: an operand that is ER is variable 10, and the other way round.
+is-ten : (o : Operand) → T (isER same (valueOf o)) → o ≡ O.Variable 10
+unfolding isER valueOf
+is-ten O.Nothing t = absurd t
+is-ten (O.Literal z) t = absurd t
+is-ten (O.Variable v) t = ap O.Variable (eqb→eq v 10 t)
+
+ten-is : (o : Operand) → o ≡ O.Variable 10 → T (isER same (valueOf o))
+unfolding isER valueOf
+ten-is o e = subst (λ (x : Operand). T (isER same (valueOf x))) (sym e) (eqb-refl 10)
+
+module _ (s : List ℕ) (m : Machine) (h : AtCell s m) where
+  cell-turn : Flags (cellActs s m) (m .variables) (turn (cellCount s) (cellActs s m) m .machine .variables)
+  unfolding cellActs
+  cell-turn =
+      flags (cellCount s) (variableCount s) (λ k. isHold (statementOf (cellAt s k))) same same (statementOf (cellAt s (m .next))) m
+      (good-cell s (recorded s (h .accepted)) (m .next) (accepted s (h .accepted) .layout (m .next) (h .here))) (h .ruled) (h .here) refl
+
+  cell-reading : (cellActs s m .reads ≡ true) ↔ ((m .hold ≡ 0) × ((cellAt s (m .next) .left ≡ O.Variable 10) ⊎ (cellAt s (m .next) .right ≡ O.Variable 10)))
+  unfolding cellActs
+  cell-reading =
+      let c = cellAt s (m .next) in
+      let again = stands s (m .next) (accepted s (h .accepted) .layout (m .next) (h .here)) .again in
+      let l = isER same (valueOf (c .left)) in
+      let r = isER same (valueOf (c .right)) in
+      let e : readsER same (m .hold) (statementOf c) ≡ (eqb (m .hold) 0 && (l || r)) = reads-fields same same (m .hold) (statementOf c) ∙ rw again in
+      rw e
+      (zero-and (m .hold) (l || r)
+      (λ t. ⊎-elim (λ a. inl (is-ten (c .left) a)) (λ b. inr (is-ten (c .right) b)) (either l r t))
+      (⊎-elim (λ a. left-of l r (ten-is (c .left) a)) (λ b. right-of l r (ten-is (c .right) b))))
+
+-- Variables 1: a name has number 10 exactly if it is ER.
+er-named : T (allOf (λ (w : Name). not (eqb (paperVariable w) 10) || eqList w (ascii "ER")) variableNames)
+unfolding allOf paperVariable variableNames numbered eqList ascii
+er-named = tt
+
+er-alone : (w : Name) → (paperVariable w ≡ 0 → ⊥) → T (not (eqb (paperVariable w) 10) || eqList w (ascii "ER"))
+unfolding paperVariable
+er-alone w n = numbered-all (λ (v : Name). not (eqb (paperVariable v) 10) || eqList v (ascii "ER")) variableNames w er-named n
+
+named-so : (xs : List Line) (w : Name) → T (eqb (numberOf xs w) 10) → T (eqList w (ascii "ER"))
+unfolding numberOf
+named-so xs w =
+    if-same (paperVariable w) 0
+    (λ e. rw (eq-eqb (paperVariable w) 0 e) (λ t. let k = eqb→eq (32 + rankOf xs w) 10 t in absurd (omega arith)))
+    (λ n. rw (ne-eqb (paperVariable w) 0 n)
+    (λ t. ⊎-elim (λ a. absurd (subst (λ (k : ℕ). T (not (eqb k 10))) (eqb→eq (paperVariable w) 10 t) a)) (λ b. b)
+    (either (not (eqb (paperVariable w) 10)) (eqList w (ascii "ER")) (er-alone w n))))
+
+named-then : (xs : List Line) (w : Name) → T (eqList w (ascii "ER")) → T (eqb (numberOf xs w) 10)
+unfolding numberOf paperVariable variableNames numbered eqList ascii
+named-then xs w t = subst (λ (v : Name). T (eqb (numberOf xs v) 10)) (sym (eqList-eq w (ascii "ER") t)) tt
+
+value-named : (xs : List Line) (x : Value Name) → isER (numberOf xs) x ≡ writtenER x
+unfolding isER writtenER
+value-named xs (Literal z) = refl
+value-named xs (Variable w) = same-test (eqb (numberOf xs w) 10) (eqList w (ascii "ER")) (named-so xs w) (named-then xs w)
+
+values-named : (xs : List Line) (vs : List (Value Name)) → anyOf (isER (numberOf xs)) vs ≡ anyOf writtenER vs
+unfolding anyOf
+values-named xs [] = refl
+values-named xs (x ∷ vs) = rw (value-named xs x, values-named xs vs)
+
+module _ (text : List ℕ) (m : Machine) (h : AtLine text m) where
+  line-good : Good (howMany makesCell (said text)) (howMany makesVariable (said text)) (placeOf (said text)) (numberOf (said text)) (lineAt (said text) (m .next))
+  unfolding writable Writes
+  line-good =
+      let xs = said text in
+      let a = lineAt xs (m .next) in
+      let f = line-acceptable xs (fine text (h .fine)) (m .next) (h .here) in
+      record {
+        named = all-each (λ n. leb (placeOf xs n) (howMany makesCell xs)) (targets a)
+            (each-then (Names (placeOf xs) (numberOf xs) (imageOf xs) (howMany makesVariable xs)) (λ n. T (leb (placeOf xs n) (howMany makesCell xs)))
+            (λ n t. le→leb (placeOf xs n) (howMany makesCell xs) (place-most xs n)) (targets a) (f .aims));
+        written = all-each (λ v. writable (howMany makesVariable xs) (numberOf xs v)) (writes a)
+            (each-then (Writes (placeOf xs) (numberOf xs) (imageOf xs) (howMany makesVariable xs)) (λ v. T (writable (howMany makesVariable xs) (numberOf xs v)))
+            (λ v w. true-is (present (howMany makesVariable xs) (numberOf xs v) && not (readOnly (numberOf xs v))) w) (writes a) (f .sets));
+      }
+
+  line-turn : Flags (lineActs (said text) m) (m .variables) (turn (howMany makesCell (said text)) (lineActs (said text) m) m .machine .variables)
+  unfolding lineActs
+  line-turn =
+      flags (howMany makesCell (said text)) (howMany makesVariable (said text)) (λ k. isHold (lineAt (said text) k)) (placeOf (said text)) (numberOf (said text))
+      (lineAt (said text) (m .next)) m line-good (h .ruled) (h .here) refl
+
+  line-reading : (lineActs (said text) m .reads ≡ true) ↔ ((m .hold ≡ 0) × T (anyOf writtenER (operands (lineAt (said text) (m .next)))))
+  unfolding lineActs readsER
+  line-reading =
+      rw (values-named (said text) (operands (lineAt (said text) (m .next))))
+      (zero-and (m .hold) (anyOf writtenER (operands (lineAt (said text) (m .next)))) (λ t. t) (λ t. t))
+
+pub request2 : (translate : Translate) (check : Check) (run : Run) → Demand1 translate check run → Demand2 translate check run → Demand3 translate run → Request2 translate check run
+request2 translate check run one two three =
+    record {
+      demand-1 = one;
+      demand-2 = two;
+      demand-3 = three;
+      cell-flags = cell-turn;
+      line-flags = line-turn;
+      cell-reads = cell-reading;
+      line-reads = line-reading;
+      event-flags = flags-event;
+    }
+
+pub request2-ours : Request2 ourTranslate ourCheck ourRun
+request2-ours = request2 ourTranslate ourCheck ourRun demand1 demand2 demand3
+
+-- What the request fixes for a runner on `RT`, `R1=EF+ER`: any other value of a variable than that of the sheet's row is against it.
+abbrev valueIn : ℕ → Outcome → ℤ
+valueIn v o = read (o .answer .state .variables) v
+
+reads-as : (translate : Translate) (check : Check) (run : Run) → Request2 translate check run → (v : ℕ)
+    → valueIn v (run readingImage [] 5 (fresh 60)) ≡ read (next 2 (variable 10 (pos 105) (variable 1 (pos 106) start)) .variables) v
+reads-as translate check run q v =
+    ap (valueIn v) (run-decided translate check run (q .demand-1) (q .demand-2) readingImage [] 5 (fresh 60))
+    ∙ ap (λ (a : Ran). read (a .state .variables) v) (sheet-holds .1 .1 .1 .1 .1 .1 .1 .1 .1 .1 .1 .1 .1 .0 .2 .0 .0)
+
+-- EF still at 1 behind the reading; EF cleared before the statement sees it; ER cleared with it.
+pub leaves-ef : (translate : Translate) (check : Check) (run : Run) → valueIn 15 (run readingImage [] 5 (fresh 60)) ≡ pos 1 → Request2 translate check run → ⊥
+unfolding read
+leaves-ef translate check run old q = let n : _≡_ {A = ℕ} 1 0 = ap natAbs (sym old ∙ reads-as translate check run q 15) in omega arith
+
+pub clears-first : (translate : Translate) (check : Check) (run : Run) → valueIn 1 (run readingImage [] 5 (fresh 60)) ≡ pos 105 → Request2 translate check run → ⊥
+unfolding read
+clears-first translate check run old q = let n : _≡_ {A = ℕ} 105 106 = ap natAbs (sym old ∙ reads-as translate check run q 1) in omega arith
+
+pub clears-er : (translate : Translate) (check : Check) (run : Run) → valueIn 10 (run readingImage [] 5 (fresh 60)) ≡ pos 0 → Request2 translate check run → ⊥
+unfolding read
+clears-er translate check run old q = let n : _≡_ {A = ℕ} 0 105 = ap natAbs (sym old ∙ reads-as translate check run q 10) in omega arith
