@@ -137,7 +137,7 @@ pub fn explain(number: u32) -> Line {
     explained(line, words::END, number)
 }
 
-// The line for a number of a kind, if there is one, and an example below it; an end needs none.
+// The line for a number of a kind, if there is one, and an example below it; an end needs none. Below an error, what a program then sees.
 fn explained(mut line: Line, kind: u8, number: u32) -> Line {
     if words::line_for(kind, number) == words::SIZE {
         return line;
@@ -149,6 +149,12 @@ fn explained(mut line: Line, kind: u8, number: u32) -> Line {
     }
     line = line.spaces(4);
     line = meaning(line, words::SAMPLE, number);
+    line = line.end();
+    if kind == words::REFUSAL {
+        return line;
+    }
+    line = line.spaces(4);
+    line = part(line, words::AFTER_ERROR);
     line.end()
 }
 

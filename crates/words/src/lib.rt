@@ -74,6 +74,8 @@ pub const FIRST_TEN: u32 = 23;
 
 pub const VERSION: u32 = 24;
 
+pub const AFTER_ERROR: u32 = 25;
+
 // The last command that the text on the tool's use tells of.
 pub const LAST_COMMAND: u32 = 8;
 
@@ -82,7 +84,7 @@ const MOST_SOUGHT: u32 = 16;
 
 // The table stands in five pieces, since a long one is dear to prove: lines for the tool, numbers of answers, hints, wrong uses, and the text
 // on the tool's use, which is no part of the lines. What is sought most often stands first.
-const TOOL_SIZE: usize = 2167;
+const TOOL_SIZE: usize = 2242;
 
 const ANSWER_SIZE: usize = 1604;
 
@@ -102,7 +104,7 @@ const FIRST_COMMAND: usize = HELP + 68;
 pub const SIZE: usize = HELP + HELP_SIZE;
 
 // The number of lines, and the bytes of the longest with its end.
-const LINE_COUNT: usize = 186;
+const LINE_COUNT: usize = 187;
 
 pub const LONGEST: usize = 76;
 
@@ -144,6 +146,7 @@ part 21: event
 part 22:  turns: 
 part 23:  lines are faulty, the first 10 are shown
 part 24: punnet 1.0, for images of edition 1
+part 25: ER is the number, EF is 1; reading ER clears EF, ER=0 clears both
 command 1: try
 command 2: translate
 command 3: check
