@@ -624,7 +624,7 @@ static struct wrote hold(struct state *m, u8 shape, i32 x, int *stops) {
     return w;
 }
 
-static struct wrote turn(struct state *m, const u8 *c, u32 cells, int *stops) {
+static struct wrote act(struct state *m, const u8 *c, u32 cells, int *stops) {
     struct wrote w = { 0 };
     u8 left = c[3] % 4;
     u32 n = read4(c + 4);
@@ -657,6 +657,19 @@ static struct wrote turn(struct state *m, const u8 *c, u32 cells, int *stops) {
     w.number = left == VARIABLE ? n : 0;
     w.value = x;
     m->next++;
+    return w;
+}
+
+/* Whether ER is an operand of the cell. */
+static int reads_er(const u8 *c) {
+    return (c[3] % 4 == VARIABLE && read4(c + 4) == ER) || (c[3] / 4 == VARIABLE && read4(c + 8) == ER);
+}
+
+/* A statement that reads ER clears EF once it has acted; one in error does not, nor does a hold in its later turns, which read nothing. */
+static struct wrote turn(struct state *m, const u8 *c, u32 cells, int *stops) {
+    int holding = m->hold != 0;
+    struct wrote w = act(m, c, cells, stops);
+    if (w.kind != 6 && !holding && reads_er(c)) m->variables[EF] = 0;
     return w;
 }
 
