@@ -4,6 +4,7 @@ use mathlib.Core.Path.{_≡_, refl, sym, ap, _∙_}
 use mathlib.Core.Bool.{Bool, true, false, cond, _&&_, _||_, not, and-true, and-false, or-false, true≢false}
 use mathlib.Core.List.{List, [], _∷_}
 use Prim.Native.Nat.{ℕ}
+use borrow.Author.Tests.{not-false}
 use lib.Dec.{eqb}
 use Rattle.numbers.specs.Tests.{anyOf}
 use Rattle.numbers.proofs.Truth.{neither, of-both}
@@ -24,10 +25,6 @@ abbrev pub asks : Statement ℕ → Bool
 asks s = anyOf (isER same) (operands s)
 
 -- By the tests of the code: a hold runs, or neither operand is ER.
-not-false : (x : Bool) → not x ≡ false → x ≡ true
-not-false true e = refl
-not-false false e = absurd (true≢false e)
-
 nothing-read : (h a b t : Bool) → (not h || not (a || b)) ≡ true → (a ≡ false → b ≡ false → t ≡ false) → false ≡ (h && t)
 nothing-read true true b t e f = absurd (true≢false (sym e))
 nothing-read true false true t e f = absurd (true≢false (sym e))

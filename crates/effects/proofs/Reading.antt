@@ -1,7 +1,7 @@
 -- Q-2: which statements clear EF once they have acted, and which do not.
 -- Assumes nothing.
 use mathlib.Core.Path.{_≡_, refl}
-use mathlib.Core.Bool.{true, false, _&&_, _||_, not, and-false, or-false, false≢true}
+use mathlib.Core.Bool.{true, false, _&&_, _||_, and-false, or-false, false≢true}
 use mathlib.Core.List.{List}
 use mathlib.Core.Logic.{_↔_}
 use Prim.Native.Nat.{ℕ, _<_}
@@ -12,7 +12,6 @@ use lib.IntN.{ℤ}
 use Rattle.numbers.specs.Tests.{anyOf}
 use Rattle.numbers.proofs.Truth.{is-true}
 use Rattle.program.specs.declared.Operand.{Operand}
-use Rattle.program.specs.declared.Operand.the-variants as O
 use Rattle.program.specs.Variables.{inRange, holdRange}
 use Rattle.program.specs.Statements.{Value, Literal, Variable, Condition, Statement, BR, CL, Hold, compared, operands}
 use Rattle.program.specs.Cells.{same, operandOf, cellOf, valueOf}

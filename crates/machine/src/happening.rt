@@ -3,7 +3,6 @@ ghost use mathlib.Core.Path.{_≡_};
 ghost use mathlib.Core.Bool.{true, false};
 ghost use Prim.Native.Nat.{_≤_};
 ghost use lib.IntN.{pos};
-ghost use lib.ListN.{length};
 ghost use Rattle.program.specs.Variables.{allInputs};
 ghost use Rattle.effects.specs.Effects.{read};
 ghost use Rattle.events.specs.Events.{eventCount, goodEvent, badEvents};

@@ -1,7 +1,7 @@
 -- Turn 11, Q-2 3, Q-2 4: what clears EF and what sets it, and what changes ER: a turn, by its statement; no event.
 -- Assumes nothing.
 use mathlib.Core.Path.{_≡_, refl, sym, ap, _∙_, subst}
-use mathlib.Core.Bool.{Bool, true, false, cond, _&&_, not, true≢false}
+use mathlib.Core.Bool.{Bool, true, false, cond, not, true≢false}
 use mathlib.Core.List.{List}
 use mathlib.Core.Logic.{_⊎_, inl, inr, ⊎-elim}
 use Prim.Native.Nat.{ℕ, suc, zero, _+_, _<_}
@@ -18,7 +18,7 @@ use Rattle.effects.specs.declared.Effect.{Effect}
 use Rattle.effects.specs.declared.Effect.the-variants.{Fails, Stores, Passes, Goes, Calls, Returns, Ends, Stays, Holds, Arms, Disarms, Moves, Slews, Prints}
 use Rattle.effects.specs.Effects.{read, effect}
 use Rattle.effects.specs.Deeds.{Deed, inError, clears, deed}
-use Rattle.effects.proofs.Reading.{in-error}
+use Rattle.effects.proofs.Reading.{error-clears-nothing, in-error}
 use Rattle.machine.specs.declared.Machine.{Machine}
 use Rattle.machine.specs.declared.Motion.{Motion}
 use Rattle.machine.specs.declared.Motion.the-variants.{Still, To, Slewing}
@@ -29,7 +29,7 @@ use Rattle.machine.specs.Happens.{input, arrivedBy, happens}
 use Rattle.rules.specs.Rules.{Ruled}
 use Rattle.rules.specs.Good.{Good}
 use Rattle.rules.specs.Flags.{Erring, StoresER, Flags}
-use Rattle.rules.proofs.Values.{read-same, read-other, mayHold}
+use Rattle.rules.proofs.Values.{read-same, read-other, cleared-other, mayHold}
 use Rattle.rules.proofs.Events.{Kinds, an-input, arrived, a-position, kinds-of}
 use Rattle.rules.proofs.Errors.{applied-in-error}
 use Rattle.rules.proofs.Turn.{Sound, sound-effect, ruled-effect, ruled-turn, zero-only}
@@ -57,7 +57,7 @@ stores-so h = rw (h .1)
 
 -- What an effect leaves of ER and EF, before anything is cleared: the error and 1, 0 and 0, or what they were.
 data Leaves (e : Effect) (before after : List ℤ) : Type 0 where
-  erring : (error : ℕ) → e ≡ Fails error → inError e ≡ true → toER e ≡ false → read after 10 ≡ pos error → read after 15 ≡ pos 1 → Leaves e before after
+  erring : (error : ℕ) → e ≡ Fails error → toER e ≡ false → read after 10 ≡ pos error → read after 15 ≡ pos 1 → Leaves e before after
   storing : e ≡ Stores 10 (pos 0) → inError e ≡ false → read after 10 ≡ pos 0 → read after 15 ≡ pos 0 → Leaves e before after
   neither : inError e ≡ false → toER e ≡ false → read after 10 ≡ read before 10 → read after 15 ≡ read before 15 → Leaves e before after
 
@@ -70,10 +70,10 @@ module _ (cells variables : ℕ) (holds : ℕ → Bool) (m : Machine) (l : lengt
   Left e = Leaves e (m .variables) (applied cells e m .machine .variables)
 
   left-erring : (error : ℕ) → Left (Fails error)
-  unfolding inError toER
+  unfolding toER
   left-erring error =
       let f = applied-in-error cells error m .variables in
-      erring error refl refl refl
+      erring error refl refl
       (ap (λ (x : List ℤ). read x 10) f ∙ read-other (set (m .variables) 10 (pos error)) 15 10 (pos 1) (λ e. omega arith) ∙ read-same (m .variables) 10 (pos error) (omega arith))
       (ap (λ (x : List ℤ). read x 15) f ∙ read-same (set (m .variables) 10 (pos error)) 15 (pos 1) (omega (arith, length-set (m .variables) 10 (pos error))))
 
@@ -117,9 +117,7 @@ module _ (cells variables : ℕ) (holds : ℕ → Bool) (m : Machine) (l : lengt
 
 -- Clearing leaves ER, and makes EF 0.
 er-cleared : (t : Bool) (vars : List ℤ) → read (clearing t vars) 10 ≡ read vars 10
-unfolding clearing
-er-cleared true vars = read-other vars 15 10 (pos 0) (λ e. omega arith)
-er-cleared false vars = refl
+er-cleared t vars = cleared-other t vars 10 (λ e. absurd (omega arith))
 
 ef-cleared : (t : Bool) (vars : List ℤ) → length vars ≡ 64 → read (clearing t vars) 15 ≡ cond t (pos 0) (read vars 15)
 unfolding clearing
@@ -160,14 +158,6 @@ module _ (d : Deed) (before after : List ℤ) (size : length after ≡ 64) where
   unfolding clears
   clears-so p q = rw (p, q)
 
-  stays-so : inError E ≡ true → clears d ≡ false
-  unfolding clears
-  stays-so q = rw q (reads-none (d .reads))
-    where
-      reads-none : (t : Bool) → (t && false) ≡ false
-      reads-none true = refl
-      reads-none false = refl
-
   unread-so : d .reads ≡ false → clears d ≡ false
   unfolding clears
   unread-so p = rw p
@@ -184,8 +174,8 @@ module _ (d : Deed) (before after : List ℤ) (size : length after ≡ 64) where
 
   module _ (flag : (ef ≡ pos 0) ⊎ (ef ≡ pos 1)) where
     flags-by : Leaves E before after → Then (clearing (clears d) after)
-    flags-by (erring error e x y er f) =
-        let one : ef ≡ pos 1 = ef-stays (stays-so x) ∙ f in
+    flags-by (erring error e y er f) =
+        let one : ef ≡ pos 1 = ef-stays (error-clears-nothing d e) ∙ f in
         record {
           cleared = λ b. (λ a. absurd (apart a one), λ h. absurd (⊎-elim (no-store y) (λ r. r .1 (error, e)) h));
           raised = λ b. (λ a. (error, e), λ h. one);

@@ -1,7 +1,7 @@
 -- The axis never slews at velocity 0: no turn, no event and no run makes it.
 -- Assumes nothing.
 use mathlib.Core.Path.{_≡_, refl, ap, _∙_, subst}
-use mathlib.Core.Bool.{Bool, true, false, not, true≢false}
+use mathlib.Core.Bool.{true, false, not}
 use mathlib.Core.List.{List}
 use Prim.Native.Nat.{ℕ}
 use native.Mathlib.Omega.{arith}
@@ -17,12 +17,12 @@ use Rattle.machine.specs.declared.Machine.{Machine}
 use Rattle.machine.specs.declared.Motion.{Motion}
 use Rattle.machine.specs.declared.Motion.the-variants.{Still, To, Slewing}
 use Rattle.events.specs.declared.Event.{Event}
-use Rattle.machine.specs.Turn.{startMachine, movingBit, inMotion, slew, called, returned, held, applied, clearing, turn}
+use Rattle.machine.specs.Turn.{startMachine, movingBit, inMotion, slew, called, returned, held, applied, turn}
 use Rattle.machine.specs.Happens.{arrivedBy, happens}
 use Rattle.machine.specs.Run.{plain, courseOf, runFrom}
 use Rattle.machine.proofs.Quiet.{happens-next}
 use Rattle.machine.proofs.Traces.{all-events, run-keeps}
-use Rattle.rules.proofs.Values.{read-other}
+use Rattle.rules.proofs.Values.{read-other, cleared-other}
 use Rattle.rules.proofs.Errors.{applied-in-error}
 
 -- A motion that is no slew at velocity 0.
@@ -47,11 +47,6 @@ stopped-still : (cells : ℕ) (m : Machine)
     → (applied cells (Slews (pos 0)) m .machine .motion ≡ Still) × ((v : ℕ) → (v ≡ 14 → ⊥) → read (applied cells (Slews (pos 0)) m .machine .variables) v ≡ read (m .variables) v)
 unfolding applied inMotion slew eqZ
 stopped-still cells m = (refl, λ v n. read-other (m .variables) 14 v (movingBit Still) n)
-
-cleared-other : (t : Bool) (vars : List ℤ) (v : ℕ) → (v ≡ 15 → t ≡ false) → read (clearing t vars) v ≡ read vars v
-unfolding clearing
-cleared-other true vars v n = read-other vars 15 v (pos 0) (λ e. true≢false (n e))
-cleared-other false vars v n = refl
 
 pub stops-still : (cells : ℕ) (d : Deed) (m : Machine) → d .effect ≡ Slews (pos 0)
     → (turn cells d m .machine .motion ≡ Still) × ((v : ℕ) → (v ≡ 14 → ⊥) → (v ≡ 15 → clears d ≡ false) → read (turn cells d m .machine .variables) v ≡ read (m .variables) v)

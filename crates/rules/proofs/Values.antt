@@ -1,7 +1,7 @@
 -- The variables of a ruled state: what one store leaves of them.
 -- Assumes nothing.
 use mathlib.Core.Path.{_≡_, refl, sym, ap, _∙_, subst}
-use mathlib.Core.Bool.{Bool, _||_}
+use mathlib.Core.Bool.{Bool, true, false, _||_, true≢false}
 use mathlib.Core.List.{List}
 use mathlib.Core.Logic.{_⊎_, ⊎-elim}
 use Prim.Native.Nat.{ℕ, zero, suc, _≤_, _<_}
@@ -17,6 +17,7 @@ use Rattle.numbers.proofs.Truth.{both, both-of, if-same, if-below}
 use Rattle.program.proofs.Ranges.{range-other}
 use Rattle.effects.specs.Errors.{isError}
 use Rattle.effects.specs.Effects.{read}
+use Rattle.machine.specs.Turn.{clearing}
 
 -- Two whole numbers are the same where the test says so.
 pub eqZ-eq : (a b : ℤ) → T (eqZ a b) → a ≡ b
@@ -34,6 +35,12 @@ read-same vars v z h = getD-set-same vars v z (pos 0) h
 pub read-other : (vars : List ℤ) (v w : ℕ) (z : ℤ) → (w ≡ v → ⊥) → read (set vars v z) w ≡ read vars w
 unfolding read
 read-other vars v w z h = getD-set-other vars v w z (pos 0) h
+
+-- Q-2 3: behind a turn EF (15) may be cleared; each other variable is as before.
+pub cleared-other : (t : Bool) (vars : List ℤ) (v : ℕ) → (v ≡ 15 → t ≡ false) → read (clearing t vars) v ≡ read vars v
+unfolding clearing
+cleared-other true vars v n = read-other vars 15 v (pos 0) (λ e. true≢false (n e))
+cleared-other false vars v n = refl
 
 -- IN by the inputs: a store elsewhere leaves it.
 pub inputs-other : (vars : List ℤ) (v : ℕ) (z : ℤ) → (v < 16) ⊎ (20 ≤ v) → allInputs (set vars v z) ≡ allInputs vars
