@@ -669,7 +669,7 @@ static int reads_er(const u8 *c) {
 static struct wrote turn(struct state *m, const u8 *c, u32 cells, int *stops) {
     int holding = m->hold != 0;
     struct wrote w = act(m, c, cells, stops);
-    if (w.kind != 6 && !holding && reads_er(c)) m->variables[EF] = 0;
+    if (m->variables[EF] && w.kind != 6 && !holding && reads_er(c)) m->variables[EF] = 0;
     return w;
 }
 

@@ -283,6 +283,7 @@ impl Machine {
         let motion = self.motion;
         let motion = reach(&mut variables, motion, events, first, last);
         let does = effect(cell, &variables, self.places.kept, self.hold);
+        change(&mut variables, cell, self.hold, does);
         let before = Control {
             next: self.next,
             places: places,
@@ -292,8 +293,6 @@ impl Machine {
         };
         let wrote = recorded(does);
         let stops = before.stops(does);
-        let after = before.after(does, cells);
-        change(&mut variables, cell, self.hold, does);
-        after.turned(variables, wrote, stops)
+        before.after(does, cells).turned(variables, wrote, stops)
     }
 }
