@@ -7,8 +7,8 @@ use Prim.Native.Nat.{ℕ, _+_, _≤_, _<_}
 use native.Mathlib.Omega.{arith}
 use borrow.Author.Tests.{le-leb, lt-leb, lt-ltb, eq-eqb, eqb-false, not-false}
 use lib.Dec.{T, eqb, leb}
-use Rattle.numbers.specs.Tests.{anyOf, eqList}
-use Rattle.numbers.proofs.Tests.{eqList-eq, Each, each-then, each-both, none-each}
+use Rattle.numbers.specs.Tests.{anyOf, eqList, Each}
+use Rattle.numbers.proofs.Tests.{eqList-eq, each-then, each-both, none-each}
 use Rattle.numbers.proofs.Truth.{neither}
 use Rattle.program.specs.Names.{Name, paperVariable}
 use Rattle.program.specs.Variables.{inRange, literals, present, readOnly}

@@ -8,9 +8,8 @@ use native.Mathlib.Omega.{arith}
 use lib.Dec.{T}
 use lib.IntN.{ℤ, pos, natAbs}
 use lib.ListN.{length}
-use Rattle.numbers.specs.Tests.{between, eqZ}
+use Rattle.numbers.specs.Tests.{between, eqZ, Each}
 use Rattle.numbers.proofs.Truth.{true-is, if-same}
-use Rattle.numbers.proofs.Tests.{Each}
 use Rattle.program.specs.Names.{Name}
 use Rattle.program.specs.Variables.{inRange, literals, present}
 use Rattle.program.specs.Statements.{Value, Literal, Variable, Statement, Divided, SetWith, MA, operands}

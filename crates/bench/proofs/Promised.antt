@@ -11,7 +11,7 @@ use Rattle.bench.specs.Translating.{answered, translated}
 use Rattle.bench.specs.Running.{checkedAs, ran}
 use Rattle.bench.specs.Calls.{Translates, Checks, Runs}
 use Rattle.bench.specs.declared.Translated.{Translated}
-use Rattle.bench.specs.Sheet.{Row, Trial, fresh, ranWith, RunsAs, Each, Holds, sheet, sheet-holds}
+use Rattle.bench.specs.Sheet.{Row, Trial, fresh, ranWith, RunsAs, Holds, sheet, sheet-holds}
 use Rattle.bench.proofs.Demands.{text-refused}
 use Rattle.bench.proofs.Impostors.{row-accepted, row-image}
 

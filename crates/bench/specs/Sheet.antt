@@ -10,6 +10,7 @@ use mathlib.Core.List as List
 use Rattle.numbers.specs.Bits as Bits
 use Rattle.numbers.specs.Bytes as Bytes
 use Rattle.numbers.specs.Tests as Tests
+use Rattle.numbers.specs.Tests.{Each}
 use Rattle.program.specs.Cells as Cells
 use Rattle.program.specs.DriveWords as DriveWords
 use Rattle.program.specs.Names as Names
@@ -215,10 +216,6 @@ RunsAs r t =
     × (ranInto (r .image) (t .script) (t .budget) (fresh (12 * t .budget)) ≡ t .records ++ fresh (12 * t .budget - length (t .records)))
     × (followed (r .text) (t .script) (t .budget) ≡ ranWith t)
     × (followedInto (r .text) (t .script) (t .budget) (fresh (12 * t .budget)) ≡ t .records ++ fresh (12 * t .budget - length (t .records)))
-
-abbrev pub Each : {A : Type 0} → (A → Type 0) → List A → Type 0
-Each P [] = Unit {0}
-Each P (x ∷ xs) = P x × Each P xs
 
 -- A row holds: the answer to translating, the whole buffer after it, and each run.
 abbrev pub Holds : Row → Type 0

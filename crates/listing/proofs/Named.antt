@@ -7,12 +7,12 @@ use Prim.Native.Nat.{ℕ, _-_, _≤_, _<_}
 use native.Mathlib.Omega.{arith}
 use borrow.Author.Tests.{ne-eqb, lt-ltb, le-ltb}
 use lib.Dec.{T, eqb}
-use Rattle.numbers.specs.Tests.{firstBelow}
+use Rattle.numbers.specs.Tests.{firstBelow, Each}
 use Rattle.program.specs.Names.{Name, paperVariable}
 use Rattle.program.specs.Variables.{present, readOnly}
 use Rattle.program.specs.Statements.{Value, Literal, Variable, Condition, Always, Compare, Statement, Set, SetWith, IC, DC, BR, CL, RT, E, H, Hold, OE, Disarm, MA, MR, SL, PR, operands, compared, writes, targets}
 use Rattle.program.specs.Cells.{same, operandOf, jumpOf, cellOf, statementOf}
-use Rattle.numbers.proofs.Tests.{Each, each-then, each-none, first-found}
+use Rattle.numbers.proofs.Tests.{each-then, each-none, first-found}
 use Rattle.numbers.proofs.Truth.{is-false}
 use Rattle.program.proofs.Ranges.{by-present}
 use Rattle.program.proofs.Statements.{Refers, refers-then}

@@ -3,7 +3,8 @@
 use mathlib.Core.Path.{_≡_, refl, sym, ap, subst}
 use mathlib.Core.List.{List, map}
 use Prim.Native.Nat.{ℕ}
-use Rattle.numbers.proofs.Tests.{Each, each-map}
+use Rattle.numbers.specs.Tests.{Each}
+use Rattle.numbers.proofs.Tests.{each-map}
 use Rattle.program.specs.Names.{Name}
 use Rattle.program.specs.Statements.{Value, Always, Compare, Statement, Set, SetWith, IC, DC, BR, CL, RT, E, H, Hold, OE, Disarm, MA, MR, SL, PR, Concerns, concern, concerns, compared, operands, writes, targets, isHold}
 use Rattle.program.proofs.Statements.{Refers}

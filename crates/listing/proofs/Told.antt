@@ -10,8 +10,8 @@ use lib.Dec.{T}
 use lib.IntN.{ℤ}
 use lib.ListN.{length}
 use Rattle.numbers.specs.Bytes.{ascii}
-use Rattle.numbers.specs.Tests.{allOf, anyOf}
-use Rattle.numbers.proofs.Tests.{Each, each-then, each-none, all-append}
+use Rattle.numbers.specs.Tests.{allOf, anyOf, Each}
+use Rattle.numbers.proofs.Tests.{each-then, each-none, all-append}
 use Rattle.numbers.proofs.Truth.{is-true}
 use Rattle.program.specs.Names.{Name, letter, digit, wordCharacter, twoCharacters, reserved, userName, freeName}
 use Rattle.program.specs.Variables.{inRange, literals}

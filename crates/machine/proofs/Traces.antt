@@ -9,7 +9,7 @@ use native.Mathlib.Omega.{arith}
 use borrow.Author.Tests.{le-leb, lt-leb, leb-true, leb-false, ne-eqb}
 use lib.Dec.{T, eqb, leb, leb→le}
 use lib.ListN.{length}
-use Rattle.numbers.specs.Tests.{allOf}
+use Rattle.numbers.specs.Tests.{Each, allOf}
 use Rattle.numbers.proofs.Truth.{both}
 use Rattle.events.specs.declared.Event.{Event}
 use Rattle.machine.specs.Run.{Bench, Step, Trace, ends, before, ReachedOf, reachBy, traceOn, CourseOf, finally, courseOf}
@@ -153,6 +153,17 @@ module _ {M D C : Type 0} (bench : Bench M D C) (quiet : (e : Event) (m : M) →
         (λ t es m h f k. k)
         (λ left t es m h e f k. came-keeps t es m h f k)
         (λ left t es m h e more p f k. p (left-fine (bench .happens) fine t es m f) (came-keeps t es m h f k))
+
+    -- What is so of a turn that begins where this is kept, is so of each turn of a run.
+    pub each-step : (So : Step M D C → Type 0)
+        → ((t : ℕ) (es : List Event) (m : M) → bench .next m < cells → T (allOf fine es) → Keeps m → So (step bench act cells t es m))
+        → (left t : ℕ) (es : List Event) (m : M) → T (allOf fine es) → Keeps m → Each So (traceOn bench act cells left t es m .steps)
+    each-step So so =
+        each-run bench act cells (λ left t es m trace. T (allOf fine es) → Keeps m → Each So (trace .steps))
+        (λ left t es m h f k. tt)
+        (λ t es m h f k. tt)
+        (λ left t es m h e f k. (so t es m h f k, tt))
+        (λ left t es m h e more p f k. (so t es m h f k, p (left-fine (bench .happens) fine t es m f) (came-keeps t es m h f k)))
 
   -- Two ways to find what the next statement does give one run, where they agree on every machine that is not past the last cell.
   module _ (f g : M → D) (cells : ℕ) (agree : (m : M) → bench .next m < cells → f m ≡ g m) where

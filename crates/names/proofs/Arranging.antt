@@ -8,7 +8,7 @@ use native.Mathlib.Omega.{arith}
 use lib.Dec.{eqb}
 use lib.ListN.{length, take, drop, replicate, length-replicate}
 use Rattle.numbers.proofs.Truth.{of-both}
-use Rattle.numbers.proofs.Tests.{Each}
+use Rattle.numbers.specs.Tests.{Each}
 use Rattle.program.specs.Names.{Name}
 use Rattle.program.proofs.Keys.{name-key, free-word, free-user}
 use Rattle.text.specs.Forms.{Line, Blank, Label, Declared, Acts}

@@ -9,15 +9,10 @@ use native.Mathlib.Omega.{arith}
 use borrow.Author.Tests.{lt-ltb, le-ltb, ltb-true, ltb-false}
 use lib.Dec.{T, eqb, ltb, eqb→eq, eqb-refl}
 use lib.ListN.{length, getD}
-use Rattle.numbers.specs.Tests.{eqList, allOf, anyOf, allBelow, anyBelow, firstBelow, listed, numbered}
+use Rattle.numbers.specs.Tests.{eqList, Each, allOf, anyOf, allBelow, anyBelow, firstBelow, listed, numbered}
 use Rattle.numbers.proofs.Truth.{is-true, true-is, both, both-of, either, left-of, right-of, neither, if-same}
 
 -- ---- over lists
-
--- Something holds of each.
-abbrev pub Each : {A : Type 0} → (A → Type 0) → List A → Type 0
-Each P [] = Unit {0}
-Each P (x ∷ xs) = P x × Each P xs
 
 module _ {A : Type 0} where
   pub each-then : (P Q : A → Type 0) → ((x : A) → P x → Q x) → (xs : List A) → Each P xs → Each Q xs

@@ -11,8 +11,8 @@ use lib.Arith.{digits-div, digits-mod}
 use lib.Dec.{eqb, ltb, leb, lit<}
 use Rattle.numbers.specs.Bytes.{ascii, number}
 use Rattle.numbers.specs.Bits.{signed32}
-use Rattle.numbers.specs.Tests.{firstBelow}
-use Rattle.numbers.proofs.Tests.{Each, first-none, first-here, first-before, first-passes}
+use Rattle.numbers.specs.Tests.{firstBelow, Each}
+use Rattle.numbers.proofs.Tests.{first-none, first-here, first-before, first-passes}
 use Rattle.numbers.proofs.Truth.{is-true, true-is, both, if-below, of-both}
 use Rattle.printing.specs.Listing.{printed, width, plain}
 use Rattle.printing.specs.Code.{packedIn, packed, atLeast, digitsOnto}

@@ -4,7 +4,8 @@ use mathlib.Core.List.{List, [], _∷_}
 use Prim.Native.Nat.{ℕ, _≤_}
 use native.Mathlib.Omega.{arith}
 use lib.Dec.{lit≤}
-use Rattle.numbers.proofs.Tests.{Each, each-then}
+use Rattle.numbers.specs.Tests.{Each}
+use Rattle.numbers.proofs.Tests.{each-then}
 use Rattle.program.specs.declared.Cell.{Cell}
 use Rattle.program.specs.declared.Operand.{Operand}
 use Rattle.program.specs.declared.Operand.the-variants as O

@@ -11,8 +11,7 @@ use borrow.Author.Tests.{ne-eqb}
 use lib.Dec.{T, eqb, leb, leb→le, eqb→eq}
 use lib.ListN.{length}
 use Rattle.numbers.specs.Bytes.{number}
-use Rattle.numbers.specs.Tests.{allOf, anyOf, lowest}
-use Rattle.numbers.proofs.Tests.{Each}
+use Rattle.numbers.specs.Tests.{allOf, anyOf, lowest, Each}
 use Rattle.numbers.proofs.Truth.{neither, both, both-of, either}
 use Rattle.program.specs.Names.{Name, letter, digit, wordCharacter, paperVariable, twoCharacters, reserved, userName, freeName}
 use Rattle.program.specs.Variables.{readOnly, mostCells, mostLabels, mostVariables}

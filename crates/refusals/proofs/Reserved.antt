@@ -10,9 +10,8 @@ use native.Mathlib.Omega.{arith}
 use lib.Dec.{T, T-not, eqb, eqb→eq}
 use lib.ListN.{length, drop, getD}
 use Rattle.numbers.specs.Bytes.{ascii}
-use Rattle.numbers.specs.Tests.{allOf, anyOf}
+use Rattle.numbers.specs.Tests.{allOf, anyOf, Each}
 use Rattle.numbers.proofs.Truth.{both, is-true}
-use Rattle.numbers.proofs.Tests.{Each}
 use Rattle.program.specs.Names.{Name, letter, wordCharacter, twoCharacters, reserved}
 use Rattle.text.specs.Lines.{lines}
 use Rattle.text.specs.Tokens.{Token, tokens, uncommented, printable}

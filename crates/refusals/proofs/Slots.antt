@@ -11,8 +11,7 @@ use lib.IntN.{ℤ, pos, negℤ}
 use lib.ListN.{length}
 use Rattle.numbers.proofs.Truth.{left-of, right-of, both}
 use Rattle.numbers.specs.Bytes.{ascii}
-use Rattle.numbers.specs.Tests.{allOf, eqList}
-use Rattle.numbers.proofs.Tests.{Each}
+use Rattle.numbers.specs.Tests.{allOf, eqList, Each}
 use Rattle.program.specs.Names.{Name, digit, twoCharacters, userName}
 use Rattle.program.specs.Statements.{Value, Literal, Variable}
 use Rattle.text.specs.Tokens.{Token, tokens, uncommented, printable}

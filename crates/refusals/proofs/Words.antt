@@ -10,9 +10,9 @@ use native.Mathlib.Omega.{arith}
 use lib.Dec.{T, T-not, not-T, leb, ltb, leb→le, le→leb}
 use lib.ListN.{length, getD}
 use Rattle.numbers.specs.Bytes.{ascii}
-use Rattle.numbers.specs.Tests.{allOf, anyOf}
+use Rattle.numbers.specs.Tests.{allOf, anyOf, Each}
 use Rattle.numbers.proofs.Truth.{both, both-of, either, left-of, right-of}
-use Rattle.numbers.proofs.Tests.{eqList-eq, Each}
+use Rattle.numbers.proofs.Tests.{eqList-eq}
 use Rattle.program.specs.Names.{Name, letter, digit}
 use Rattle.program.proofs.Keys.{IsWord, two-word, user-word, single, double}
 use Rattle.text.specs.Lines.{lines}

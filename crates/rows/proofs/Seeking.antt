@@ -10,9 +10,9 @@ use borrow.Author.Tests.{lt-ltb, le-ltb}
 use lib.Dec.{T, eqb, ltb}
 use lib.ListN.{length, getD, set, replicate, length-replicate, length-set, getD-replicate, List·getD-eq-default}
 use lib.Seq.{set-out, set-getD, getD-set-same, getD-set-other}
-use Rattle.numbers.specs.Tests.{eqList, anyOf}
+use Rattle.numbers.specs.Tests.{eqList, anyOf, Each}
 use Rattle.numbers.proofs.Truth.{is-true, true-is, if-below, of-both}
-use Rattle.numbers.proofs.Tests.{Each, eqList-refl, eqList-eq}
+use Rattle.numbers.proofs.Tests.{eqList-refl, eqList-eq}
 use Rattle.program.specs.Names.{Name, paperVariable, twoCharacters, userName}
 use Rattle.program.proofs.Keys.{user-two, user-no-paper}
 use Rattle.text.specs.Forms.{Line, Blank, Label, Declared, Acts}

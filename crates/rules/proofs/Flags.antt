@@ -10,7 +10,7 @@ use borrow.Author.Tests.{ne-eqb}
 use lib.Dec.{T, eqb, leb, ltb, leb→le}
 use lib.IntN.{ℤ, pos, negsuc, natAbs}
 use lib.ListN.{length, set, length-set}
-use Rattle.numbers.specs.Tests.{between}
+use Rattle.numbers.specs.Tests.{between, Each, allOf}
 use Rattle.numbers.proofs.Truth.{both, chosen, if-same}
 use Rattle.program.specs.Variables.{rangeOf, readOnly, allInputs}
 use Rattle.program.specs.Statements.{Statement, isHold}
@@ -26,13 +26,17 @@ use Rattle.events.specs.declared.Event.{Event}
 use Rattle.machine.specs.Turn.{stored, inMotion, movingBit, slew, called, returned, held, applied, clearing, turn}
 use Rattle.events.specs.Events.{goodEvent}
 use Rattle.machine.specs.Happens.{input, arrivedBy, happens}
+use Rattle.machine.specs.Run.{plain, reach, traceFrom}
+use Rattle.machine.proofs.Quiet.{happens-next}
+use Rattle.machine.proofs.Traces.{step, reach-keeps, next-reached, each-step}
 use Rattle.rules.specs.Rules.{Ruled}
-use Rattle.rules.specs.Good.{Good}
-use Rattle.rules.specs.Flags.{Erring, StoresER, Flags}
+use Rattle.rules.specs.Good.{Good, Acts}
+use Rattle.rules.specs.Flags.{Erring, StoresER, Flags, FlagsIn}
 use Rattle.rules.proofs.Values.{read-same, read-other, cleared-other, mayHold}
-use Rattle.rules.proofs.Events.{Kinds, an-input, arrived, a-position, kinds-of}
+use Rattle.rules.proofs.Events.{Kinds, an-input, arrived, a-position, kinds-of, ruled-event}
 use Rattle.rules.proofs.Errors.{applied-in-error}
 use Rattle.rules.proofs.Turn.{Sound, sound-effect, ruled-effect, ruled-turn, zero-only}
+use Rattle.rules.proofs.Run.{ruled-act}
 
 -- An effect that is a store to ER, as a test.
 unfoldable toER : Effect → Bool
@@ -242,3 +246,41 @@ pub flags-event : (e : Event) (m : Machine) → T (goodEvent e)
 flags-event e m good =
     let k = kinds-of e good in
     (kind-leaves 10 (omega arith) (λ q. omega arith) (λ q. omega arith) e m k, kind-leaves 15 (omega arith) (λ q. omega arith) (λ q. omega arith) e m k)
+
+-- What is told of two states of the variables is told of any with the same ER and EF before.
+abbrev SameFlags : List ℤ → List ℤ → Type 0
+SameFlags before here = (read here 10 ≡ read before 10) × (read here 15 ≡ read before 15)
+
+flags-since : {d : Deed} {before here after : List ℤ} → SameFlags before here → Flags d here after → Flags d before after
+flags-since k f =
+    record {
+      cleared = λ b. f .cleared (k .1 ∙ b);
+      raised = λ b. f .raised (k .1 ∙ b);
+      flag = f .flag;
+      told = f .told;
+      emptied = f .emptied;
+      kept = λ n o. f .kept n o ∙ k .0;
+    }
+
+-- Turn 11, Q-2 3, Q-2 4: so ER and EF change in each turn of a run, its events and its statement together.
+module _ {R : Type 0} (cells variables : ℕ) (holds : ℕ → Bool) (place number : R → ℕ) (act : Machine → Deed)
+    (acts : (m : Machine) → Ruled cells variables holds m → m .next < cells → Acts cells variables holds place number act m) where
+  flags-act : (m : Machine) → Ruled cells variables holds m → m .next < cells → Flags (act m) (m .variables) (turn cells (act m) m .machine .variables)
+  flags-act m r here =
+      let a = acts m r here in
+      subst (λ (d : Deed). Flags d (m .variables) (turn cells d m .machine .variables)) (sym (a .does))
+      (flags cells variables holds place number (a .statement) m (a .good) r here (a .hold))
+
+  flags-step : (t : ℕ) (es : List Event) (m : Machine) → m .next < cells → T (allOf goodEvent es) → Ruled cells variables holds m
+      → FlagsIn (step plain act cells t es m)
+  flags-step t es m here f r =
+      let there = reach t es m .machine in
+      let k = reach-keeps happens (λ x. SameFlags (m .variables) (x .variables)) goodEvent (λ e x g h. let i = flags-event e x g in (i .0 ∙ h .0, i .1 ∙ h .1)) t es m f (refl, refl) in
+      flags-since k
+      (flags-act there (reach-keeps happens (Ruled cells variables holds) goodEvent ruled-event t es m f r) (rw (next-reached plain happens-next t es m) here))
+
+  pub flags-run : (left t : ℕ) (es : List Event) (m : Machine) → T (allOf goodEvent es) → Ruled cells variables holds m
+      → Each FlagsIn (traceFrom act cells left t es m .steps)
+  flags-run =
+      each-step plain happens-next act cells (Ruled cells variables holds) goodEvent ruled-event
+      (ruled-act cells variables holds place number act acts) FlagsIn flags-step

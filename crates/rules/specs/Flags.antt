@@ -10,6 +10,9 @@ use Rattle.effects.specs.declared.Effect.{Effect}
 use Rattle.effects.specs.declared.Effect.the-variants.{Fails, Stores}
 use Rattle.effects.specs.Effects.{read}
 use Rattle.effects.specs.Deeds.{Deed}
+use Rattle.machine.specs.declared.Machine.{Machine}
+use Rattle.machine.specs.declared.Turned.{Turned}
+use Rattle.machine.specs.Run.{Step}
 
 -- Turn 21: an effect that is an error. Turn 11: one that is a store to ER.
 abbrev pub Erring : Effect → Type 0
@@ -30,3 +33,7 @@ pub record Flags (d : Deed) (before after : List ℤ) : Type 0 where
   pub told : (error : ℕ) → d .effect ≡ Fails error → read after 10 ≡ pos error
   pub emptied : StoresER (d .effect) → read after 10 ≡ pos 0
   pub kept : (Erring (d .effect) → ⊥) → (StoresER (d .effect) → ⊥) → read after 10 ≡ read before 10
+
+-- Turn 7: the same of a turn of a run, from before its events to behind its statement.
+abbrev pub FlagsIn : Step Machine Deed Turned → Type 0
+FlagsIn s = Flags (s .does) (s .before .variables) (s .came .machine .variables)

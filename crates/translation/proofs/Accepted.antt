@@ -7,9 +7,8 @@ use Prim.Native.Nat.{ℕ, zero, suc, _≤_}
 use native.Mathlib.Omega.{arith}
 use lib.Dec.{eqb, eqb·suc-zero, leb}
 use borrow.Author.Tests.{leb-false}
-use Rattle.numbers.specs.Tests.{lowest}
+use Rattle.numbers.specs.Tests.{lowest, Each}
 use Rattle.numbers.proofs.Truth.{neither}
-use Rattle.numbers.proofs.Tests.{Each}
 use Rattle.program.specs.Variables.{mostCells, mostLabels, mostVariables}
 use Rattle.rows.specs.Rows.{plus}
 use Rattle.names.proofs.Lines.{count-more}

@@ -12,7 +12,7 @@ use lib.Seq.{sets, length-take-le, drop-drop}
 use Rattle.numbers.specs.Bytes.{bytes}
 use Rattle.numbers.specs.Bits.{digits32}
 use Rattle.numbers.proofs.Laws.{length-bytes}
-use Rattle.numbers.proofs.Tests.{Each}
+use Rattle.numbers.specs.Tests.{Each}
 use Rattle.program.specs.Names.{Name}
 use Rattle.program.specs.Cells.{cellOf}
 use Rattle.text.specs.Forms.{Line, Blank, Label, Declared, Acts}
