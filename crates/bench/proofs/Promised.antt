@@ -1,9 +1,11 @@
 -- The bench sheet over the promises of the calls: for each row the expected answer and buffers are what Translates, Checks and Runs ask for (Tight 6).
 -- Assumes nothing.
 use mathlib.Core.Path.{_≡_, refl, sym, ap, _∙_}
-use mathlib.Core.List.{List, [], _∷_, _++_}
+use mathlib.Core.List.{_++_}
 use Prim.Native.Nat.{ℕ, _*_, _-_}
 use lib.ListN.{length, length-replicate}
+use Rattle.numbers.specs.Tests.{Each}
+use Rattle.numbers.proofs.Tests.{each-then, each-both}
 use Rattle.image.specs.Check.{checked}
 use Rattle.agreement.proofs.Checked.{image-checked}
 use Rattle.translation.specs.Images.{image}
@@ -25,16 +27,6 @@ pub record Promised (r : Row) : Type 0 where
   pub translates : Translates (r .text) (fresh 128) (r .answer) (r .image ++ fresh (128 - length (r .image)))
   pub checks : r .answer .number ≡ 0 → Checks (r .image) (record { number = 0 })
   pub runs : Each (RunPromised r) (r .trials)
-
--- What follows for one follows for each.
-module _ {A : Type 0} where
-  each : (P Q : A → Type 0) → ((x : A) → P x → Q x) → (xs : List A) → Each P xs → Each Q xs
-  each P Q f [] e = tt
-  each P Q f (x ∷ xs) e = (f x (e .0), each P Q f xs (e .1))
-
-  each-both : (P Q S : A → Type 0) → ((x : A) → P x → Q x → S x) → (xs : List A) → Each P xs → Each Q xs → Each S xs
-  each-both P Q S f [] d e = tt
-  each-both P Q S f (x ∷ xs) d e = (f x (d .0) (e .0), each-both P Q S f xs (d .1) (e .1))
 
 -- The answer's length is that of the row's image.
 abbrev Sized : Row → Type 0
@@ -68,8 +60,8 @@ row-promised r h s =
     record {
       translates = record { answers = sym (h .0); leaves = sym (h .1) };
       checks = row-checks r h s;
-      runs = each (RunsAs r) (RunPromised r) (run-promised r) (r .trials) (h .2);
+      runs = each-then (RunsAs r) (RunPromised r) (run-promised r) (r .trials) (h .2);
     }
 
 pub sheet-promised : Each Promised sheet
-sheet-promised = each-both Holds Sized Promised row-promised sheet sheet-holds sizes
+sheet-promised = each-then (λ r. Holds r × Sized r) Promised (λ r h. row-promised r (h .0) (h .1)) sheet (each-both Holds Sized sheet sheet-holds sizes)

@@ -1,7 +1,7 @@
 -- Q-2: what the request asks holds of all calls that meet the demands, the bench's own among them; and of no runner that leaves EF, or clears it too soon, or clears ER.
 -- Assumes nothing.
 use mathlib.Core.Path.{_≡_, refl, sym, ap, _∙_, subst}
-use mathlib.Core.Bool.{Bool, true, _&&_, _||_, not}
+use mathlib.Core.Bool.{Bool, true, false, _&&_, _||_, not}
 use mathlib.Core.List.{List, [], _∷_}
 use mathlib.Core.Logic.{_↔_, _⊎_, inl, inr, ⊎-elim}
 use Prim.Native.Nat.{ℕ, _+_}
@@ -10,7 +10,7 @@ use borrow.Author.Tests.{eq-eqb, ne-eqb}
 use lib.Dec.{T, eqb, eqb→eq, eqb-refl, leb, le→leb}
 use lib.IntN.{ℤ, pos, natAbs}
 use Rattle.numbers.specs.Bytes.{ascii}
-use Rattle.numbers.specs.Tests.{anyOf, allOf, eqList, numbered}
+use Rattle.numbers.specs.Tests.{anyOf, allOf, eqList, numbered, Each}
 use Rattle.numbers.proofs.Truth.{is-true, true-is, both, both-of, either, left-of, right-of, if-same, same-test}
 use Rattle.numbers.proofs.Tests.{each-then, all-each, eqList-eq, numbered-all}
 use Rattle.program.specs.declared.Operand.{Operand}
@@ -21,33 +21,38 @@ use Rattle.program.specs.Statements.{Value, Literal, Variable, operands, writes
 use Rattle.program.specs.Cells.{same, valueOf, statementOf}
 use Rattle.text.specs.Forms.{Line}
 use Rattle.text.specs.Faults.{said, howMany, makesCell, makesVariable, rankOf, placeOf, numberOf}
-use Rattle.image.specs.Layout.{cellCount, variableCount, cellAt}
+use Rattle.image.specs.Layout.{cellCount, variableCount, cellAt, startValues}
+use Rattle.image.specs.Check.{checked}
 use Rattle.image.proofs.Accepted.{Names, Writes}
-use Rattle.translation.specs.Images.{imageOf}
+use Rattle.translation.specs.Images as Images
+use Rattle.translation.specs.Images.{imageOf, image}
 use Rattle.translation.specs.Places.{lineAt}
 use Rattle.effects.specs.Effects.{read}
 use Rattle.effects.specs.Deeds.{isER, readsER}
 use Rattle.effects.proofs.Reading.{reads-fields}
 use Rattle.machine.specs.declared.Machine.{Machine}
-use Rattle.machine.specs.Turn.{turn}
-use Rattle.running.specs.Courses.{cellActs}
+use Rattle.machine.specs.Turn.{startMachine, turn}
+use Rattle.machine.specs.Run.{PlainTrace}
+use Rattle.events.specs.Events.{badEvents, events}
+use Rattle.running.specs.Courses.{cellActs, imageTrace}
 use Rattle.rules.specs.Good.{writable, Good}
-use Rattle.rules.specs.Flags.{Flags}
-use Rattle.rules.proofs.Flags.{flags, flags-event}
+use Rattle.rules.specs.Flags.{Flags, FlagsIn}
+use Rattle.rules.proofs.Events.{all-good}
+use Rattle.rules.proofs.Flags.{flags, flags-event, flags-act, flags-run}
 use Rattle.listing.proofs.Accepted.{accepted}
-use Rattle.listing.proofs.Recorded.{recorded}
 use Rattle.listing.proofs.Resolved.{stands}
 use Rattle.agreement.proofs.Sound.{fine}
 use Rattle.agreement.proofs.Records.{place-most}
 use Rattle.agreement.proofs.Cells.{line-acceptable}
+use Rattle.agreement.proofs.Checked.{image-checked}
 use Rattle.bench.specs.declared.Ran.{Ran}
-use Rattle.bench.specs.Following.{lineActs}
+use Rattle.bench.specs.Following.{lineActs, textTrace}
 use Rattle.bench.specs.Demands.{Translate, Check, Outcome, Run, Demand1, Demand2, Demand3, ourTranslate, ourCheck, ourRun}
 use Rattle.bench.specs.Sheet.{start, variable, next, fresh, readingImage, sheet-holds}
 use Rattle.bench.specs.Requests.{AtCell, AtLine, writtenER, Request2}
-use Rattle.bench.proofs.Demands.{demand1, demand2, demand3}
+use Rattle.bench.proofs.Demands.{one-trace, demand1, demand2, demand3}
 use Rattle.bench.proofs.Decided.{run-decided}
-use Rattle.bench.proofs.States.{good-cell}
+use Rattle.bench.proofs.States.{holdsAt, start-ruled, acts}
 
 -- A test beside whether a number is 0, and the two of them as facts.
 zero-and : (n : ℕ) (t : Bool) {P : Type 0} → (T t → P) → (P → T t) → ((eqb n 0 && t) ≡ true) ↔ ((n ≡ 0) × P)
@@ -69,10 +74,7 @@ ten-is o e = subst (λ (x : Operand). T (isER same (valueOf x))) (sym e) (eqb-re
 
 module _ (s : List ℕ) (m : Machine) (h : AtCell s m) where
   cell-turn : Flags (cellActs s m) (m .variables) (turn (cellCount s) (cellActs s m) m .machine .variables)
-  unfolding cellActs
-  cell-turn =
-      flags (cellCount s) (variableCount s) (λ k. isHold (statementOf (cellAt s k))) same same (statementOf (cellAt s (m .next))) m
-      (good-cell s (recorded s (h .accepted)) (m .next) (accepted s (h .accepted) .layout (m .next) (h .here))) (h .ruled) (h .here) refl
+  cell-turn = flags-act (cellCount s) (variableCount s) (holdsAt s) same same (cellActs s) (acts s (h .accepted)) m (h .ruled) (h .here)
 
   cell-reading : (cellActs s m .reads ≡ true) ↔ ((m .hold ≡ 0) × ((cellAt s (m .next) .left ≡ O.Variable 10) ⊎ (cellAt s (m .next) .right ≡ O.Variable 10)))
   unfolding cellActs
@@ -147,6 +149,16 @@ module _ (text : List ℕ) (m : Machine) (h : AtLine text m) where
       rw (values-named (said text) (operands (lineAt (said text) (m .next))))
       (zero-and (m .hold) (anyOf writtenER (operands (lineAt (said text) (m .next)))) (λ t. t) (λ t. t))
 
+-- Turn 7, Turn 11: each turn of a run, of an image and of a text.
+image-flags : (s script : List ℕ) (budget : ℕ) → checked s ≡ 0 → badEvents script ≡ false → Each FlagsIn (imageTrace s script budget .steps)
+unfolding imageTrace
+image-flags s script budget good fine =
+    flags-run (cellCount s) (variableCount s) (holdsAt s) same same (cellActs s) (acts s good) budget 0 (events script) (startMachine (startValues s)) (all-good script fine) (start-ruled s good)
+
+text-flags : (text script : List ℕ) (budget : ℕ) → Images.accepted text ≡ true → badEvents script ≡ false → Each FlagsIn (textTrace text script budget .steps)
+text-flags text script budget ok fine =
+    subst (λ (trace : PlainTrace). Each FlagsIn (trace .steps)) (one-trace text script budget ok) (image-flags (image text) script budget (image-checked text ok) fine)
+
 pub request2 : (translate : Translate) (check : Check) (run : Run) → Demand1 translate check run → Demand2 translate check run → Demand3 translate run → Request2 translate check run
 request2 translate check run one two three =
     record {
@@ -157,6 +169,8 @@ request2 translate check run one two three =
       line-flags = line-turn;
       cell-reads = cell-reading;
       line-reads = line-reading;
+      image-run = image-flags;
+      text-run = text-flags;
       event-flags = flags-event;
     }
 

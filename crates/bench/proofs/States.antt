@@ -68,7 +68,7 @@ abbrev pub holdsAt : List ℕ → ℕ → Bool
 holdsAt s k = isHold (statementOf (cellAt s k))
 
 module _ (s : List ℕ) (good : checked s ≡ 0) where
-  start-ruled : Ruled (cellCount s) (variableCount s) (holdsAt s) (startMachine (startValues s))
+  pub start-ruled : Ruled (cellCount s) (variableCount s) (holdsAt s) (startMachine (startValues s))
   unfolding startValues
   start-ruled =
       let a = accepted s good in
@@ -76,7 +76,7 @@ module _ (s : List ℕ) (good : checked s ≡ 0) where
       (λ k h. let e : getD (listed 0 (variableCount s) (startValue s)) k (pos 0) ≡ startValue s k = listed-at (startValue s) (pos 0) 0 (variableCount s) k h ∙ ap (startValue s) (omega arith) in
       rw e (a .start-value k h))
 
-  acts : (m : Machine) → Ruled (cellCount s) (variableCount s) (holdsAt s) m → m .next < cellCount s → Acts (cellCount s) (variableCount s) (holdsAt s) same same (cellActs s) m
+  pub acts : (m : Machine) → Ruled (cellCount s) (variableCount s) (holdsAt s) m → m .next < cellCount s → Acts (cellCount s) (variableCount s) (holdsAt s) same same (cellActs s) m
   unfolding cellActs
   acts m r h =
       record {

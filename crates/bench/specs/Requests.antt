@@ -9,7 +9,7 @@ use lib.Dec.{T}
 use lib.IntN.{ℤ, pos}
 use lib.ListN.{length, take, drop, getD}
 use Rattle.numbers.specs.Bytes.{ascii}
-use Rattle.numbers.specs.Tests.{Lowest, NoRow, anyOf, between, eqList, eqZ}
+use Rattle.numbers.specs.Tests.{Lowest, NoRow, Each, anyOf, between, eqList, eqZ}
 use Rattle.program.specs.Names.{Name, twoCharacters, reserved, newlyReserved, freeName}
 use Rattle.program.specs.Variables.{inRange, literals}
 use Rattle.program.specs.declared.Operand.the-variants as O
@@ -24,17 +24,17 @@ use Rattle.translation.specs.Places.{lineAt}
 use Rattle.effects.specs.Effects.{read}
 use Rattle.effects.specs.Results.{results, OverOrUnder, Neither}
 use Rattle.events.specs.declared.Event.{Event}
-use Rattle.events.specs.Events.{goodEvent}
+use Rattle.events.specs.Events.{goodEvent, badEvents}
 use Rattle.machine.specs.declared.Machine.{Machine}
 use Rattle.machine.specs.Turn.{turn}
 use Rattle.machine.specs.Happens.{happens}
-use Rattle.running.specs.Courses.{cellActs}
+use Rattle.running.specs.Courses.{cellActs, imageTrace}
 use Rattle.rules.specs.Rules.{Ruled}
-use Rattle.rules.specs.Flags.{Flags}
+use Rattle.rules.specs.Flags.{Flags, FlagsIn}
 use Rattle.printing.specs.Listing.{listing, plain}
 use Rattle.bench.specs.Translating.{answered}
 use Rattle.bench.specs.Listings.{listAnswered, listedAs, listedInto}
-use Rattle.bench.specs.Following.{lineActs}
+use Rattle.bench.specs.Following.{lineActs, textTrace}
 use Rattle.bench.specs.Demands.{Bytes, Translate, Check, Run, Demand1, Demand2, Demand3, given}
 use Rattle.bench.specs.declared.Listed.{Listed}
 
@@ -118,6 +118,9 @@ pub record Request2 (translate : Translate) (check : Check) (run : Run) : Type 0
       → (cellActs s m .reads ≡ true) ↔ ((m .hold ≡ 0) × ((cellAt s (m .next) .left ≡ O.Variable 10) ⊎ (cellAt s (m .next) .right ≡ O.Variable 10)))
   pub line-reads : (text : List ℕ) (m : Machine) → AtLine text m
       → (lineActs (said text) m .reads ≡ true) ↔ ((m .hold ≡ 0) × T (anyOf writtenER (operands (lineAt (said text) (m .next)))))
+  -- Turn 7, Turn 11: so in each turn of a run of an accepted image, and of an accepted text, from before its events to behind its statement.
+  pub image-run : (s script : List ℕ) (budget : ℕ) → checked s ≡ 0 → badEvents script ≡ false → Each FlagsIn (imageTrace s script budget .steps)
+  pub text-run : (text script : List ℕ) (budget : ℕ) → accepted text ≡ true → badEvents script ≡ false → Each FlagsIn (textTrace text script budget .steps)
   -- Turn 11: an event changes neither.
   pub event-flags : (e : Event) (m : Machine) → T (goodEvent e)
       → (read (happens e m .variables) 10 ≡ read (m .variables) 10) × (read (happens e m .variables) 15 ≡ read (m .variables) 15)

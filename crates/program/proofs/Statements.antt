@@ -10,7 +10,7 @@ use Rattle.program.specs.declared.Cell.{Cell}
 use Rattle.program.specs.declared.Operand.{Operand}
 use Rattle.program.specs.declared.Operand.the-variants as O
 use Rattle.program.specs.Statements.{Value, Always, Compare, Statement, Set, SetWith, IC, DC, BR, CL, RT, E, H, Hold, OE, Disarm, MA, MR, SL, PR, compared, operands, writes, targets}
-use Rattle.program.specs.Cells.{noTarget, cell, operandOf, jumpOf, cellOf}
+use Rattle.program.specs.Cells.{noTarget, operandOf, jumpOf, cellOf}
 use Rattle.program.proofs.Selectors.{operator-range, comparison-range}
 
 -- Each operand that a statement reads is such, each variable that it writes, each label that it names.

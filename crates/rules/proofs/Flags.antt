@@ -265,7 +265,7 @@ flags-since k f =
 -- Turn 11, Q-2 3, Q-2 4: so ER and EF change in each turn of a run, its events and its statement together.
 module _ {R : Type 0} (cells variables : ℕ) (holds : ℕ → Bool) (place number : R → ℕ) (act : Machine → Deed)
     (acts : (m : Machine) → Ruled cells variables holds m → m .next < cells → Acts cells variables holds place number act m) where
-  flags-act : (m : Machine) → Ruled cells variables holds m → m .next < cells → Flags (act m) (m .variables) (turn cells (act m) m .machine .variables)
+  pub flags-act : (m : Machine) → Ruled cells variables holds m → m .next < cells → Flags (act m) (m .variables) (turn cells (act m) m .machine .variables)
   flags-act m r here =
       let a = acts m r here in
       subst (λ (d : Deed). Flags d (m .variables) (turn cells d m .machine .variables)) (sym (a .does))
