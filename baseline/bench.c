@@ -665,7 +665,7 @@ static int reads_er(const u8 *c) {
     return (c[3] % 4 == VARIABLE && read4(c + 4) == ER) || (c[3] / 4 == VARIABLE && read4(c + 8) == ER);
 }
 
-/* A statement that reads ER clears EF once it has acted; one in error does not, nor does a hold in its later turns, which read nothing. */
+/* The statement, and behind it EF is 0 if it read ER; but not if it is in error, nor in the later turns of a hold, which read nothing. */
 static struct wrote turn(struct state *m, const u8 *c, u32 cells, int *stops) {
     int holding = m->hold != 0;
     struct wrote w = act(m, c, cells, stops);

@@ -1,4 +1,4 @@
-// Which statements clear EF once they have acted: those that read ER, unless they are in error.
+// Which statements clear EF: those that read ER, unless they are in error.
 ghost use mathlib.Core.Path.{_≡_};
 ghost use Rattle.program.specs.Cells.{same, valueOf, statementOf};
 ghost use Rattle.effects.specs.Deeds.{isER, readsER};

@@ -98,7 +98,7 @@ module _ (s script : List ℕ) (budget : ℕ) (buffer : List ℕ) (good : checke
   run-accepted = rw none-refused refl
 
 -- Beside demand 3, over the definitions: an accepted text and its image take the same turns, step for step, within any budget. Each turn has the same number,
--- the same machine before it and once its events have acted, the same effect and the same outcome; so both go by the same places, and end for the same reason.
+-- the same machine before it and once its events have acted, a statement that does the same, and the same outcome; so both go by the same places, and end for the same reason.
 pub one-trace : (text script : List ℕ) (budget : ℕ) → accepted text ≡ true → imageTrace (image text) script budget ≡ textTrace text script budget
 unfolding imageTrace cellActs textTrace linesTrace lineActs
 one-trace text script budget ok = same-steps text ok budget (events script)

@@ -68,6 +68,7 @@ abbrev pub holdsAt : List ℕ → ℕ → Bool
 holdsAt s k = isHold (statementOf (cellAt s k))
 
 module _ (s : List ℕ) (good : checked s ≡ 0) where
+  -- A run begins in a state that has the rules, and at each cell a good statement acts.
   pub start-ruled : Ruled (cellCount s) (variableCount s) (holdsAt s) (startMachine (startValues s))
   unfolding startValues
   start-ruled =

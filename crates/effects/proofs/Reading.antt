@@ -1,4 +1,4 @@
--- Q-2: which statements clear EF once they have acted, and which do not.
+-- Q-2: which statements clear EF, and which do not.
 -- Assumes nothing.
 use mathlib.Core.Path.{_≡_, refl}
 use mathlib.Core.Bool.{true, false, _&&_, _||_, and-false, or-false, false≢true}

@@ -1,4 +1,4 @@
-// One turn: the effect of the statement, applied to the machine.
+// One turn: the effect of the statement, applied to the machine, and EF cleared where the statement reads ER.
 ghost use mathlib.Core.Path.{_≡_};
 ghost use mathlib.Core.Bool.{false};
 ghost use mathlib.Core.List.{List};

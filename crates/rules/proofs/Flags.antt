@@ -8,6 +8,7 @@ use Prim.Native.Nat.{ℕ, suc, zero, _+_, _<_}
 use native.Mathlib.Omega.{arith}
 use borrow.Author.Tests.{ne-eqb}
 use lib.Dec.{T, eqb, leb, ltb, leb→le}
+use denote.Enum.Declared.{tagOf}
 use lib.IntN.{ℤ, pos, negsuc, natAbs}
 use lib.ListN.{length, set, length-set}
 use Rattle.numbers.specs.Tests.{between, Each, allOf}
@@ -16,6 +17,7 @@ use Rattle.program.specs.Variables.{rangeOf, readOnly, allInputs}
 use Rattle.program.specs.Statements.{Statement, isHold}
 use Rattle.effects.specs.declared.Effect.{Effect}
 use Rattle.effects.specs.declared.Effect.the-variants.{Fails, Stores, Passes, Goes, Calls, Returns, Ends, Stays, Holds, Arms, Disarms, Moves, Slews, Prints}
+use Rattle.effects.proofs.Effect.{the-type}
 use Rattle.effects.specs.Effects.{read, effect}
 use Rattle.effects.specs.Deeds.{Deed, inError, clears, deed}
 use Rattle.effects.proofs.Reading.{error-clears-nothing, in-error}
@@ -38,32 +40,15 @@ use Rattle.rules.proofs.Errors.{applied-in-error}
 use Rattle.rules.proofs.Turn.{Sound, sound-effect, ruled-effect, ruled-turn, zero-only}
 use Rattle.rules.proofs.Run.{ruled-act}
 
--- An effect that is a store to ER, as a test.
-unfoldable toER : Effect → Bool
-toER (Fails error) = false
-toER (Stores v z) = eqb v 10
-toER Passes = false
-toER (Goes cell) = false
-toER (Calls cell) = false
-toER Returns = false
-toER Ends = false
-toER Stays = false
-toER (Holds turns) = false
-toER (Arms cell) = false
-toER Disarms = false
-toER (Moves target kind z) = false
-toER (Slews z) = false
-toER (Prints v z) = false
-
-stores-so : {e : Effect} → StoresER e → toER e ≡ true
-unfolding toER
-stores-so h = rw (h .1)
+-- Only an effect with the tag of a store is one to ER.
+no-store : {e : Effect} → eqb (tagOf the-type e) 1 ≡ false → StoresER e → ⊥
+no-store p h = true≢false (sym (ap (λ (e : Effect). eqb (tagOf the-type e) 1) (h .1)) ∙ p)
 
 -- What an effect leaves of ER and EF, before anything is cleared: the error and 1, 0 and 0, or what they were.
 data Leaves (e : Effect) (before after : List ℤ) : Type 0 where
-  erring : (error : ℕ) → e ≡ Fails error → toER e ≡ false → read after 10 ≡ pos error → read after 15 ≡ pos 1 → Leaves e before after
+  erring : (error : ℕ) → e ≡ Fails error → (StoresER e → ⊥) → read after 10 ≡ pos error → read after 15 ≡ pos 1 → Leaves e before after
   storing : e ≡ Stores 10 (pos 0) → inError e ≡ false → read after 10 ≡ pos 0 → read after 15 ≡ pos 0 → Leaves e before after
-  neither : inError e ≡ false → toER e ≡ false → read after 10 ≡ read before 10 → read after 15 ≡ read before 15 → Leaves e before after
+  neither : inError e ≡ false → (StoresER e → ⊥) → read after 10 ≡ read before 10 → read after 15 ≡ read before 15 → Leaves e before after
 
 held-variables : (turns : ℕ) (m : Machine) → held turns m .variables ≡ m .variables
 unfolding held
@@ -74,16 +59,15 @@ module _ (cells variables : ℕ) (holds : ℕ → Bool) (m : Machine) (l : lengt
   Left e = Leaves e (m .variables) (applied cells e m .machine .variables)
 
   left-erring : (error : ℕ) → Left (Fails error)
-  unfolding toER
   left-erring error =
       let f = applied-in-error cells error m .variables in
-      erring error refl refl
+      erring error refl (no-store refl)
       (ap (λ (x : List ℤ). read x 10) f ∙ read-other (set (m .variables) 10 (pos error)) 15 10 (pos 1) (λ e. omega arith) ∙ read-same (m .variables) 10 (pos error) (omega arith))
       (ap (λ (x : List ℤ). read x 15) f ∙ read-same (set (m .variables) 10 (pos error)) 15 (pos 1) (omega (arith, length-set (m .variables) 10 (pos error))))
 
   -- A store goes to ER, and is of 0, or it goes to a variable that is neither ER nor EF.
   left-storing : (v : ℕ) (z : ℤ) → T (not (readOnly v)) → T (mayHold (m .variables) v z) → Left (Stores v z)
-  unfolding applied stored rangeOf inError toER
+  unfolding applied stored rangeOf inError
   left-storing v z w t =
       if-same v 10
       (λ e.
@@ -94,30 +78,30 @@ module _ (cells variables : ℕ) (holds : ℕ → Bool) (m : Machine) (l : lengt
       (read-same (set (m .variables) 10 (pos 0)) 15 (pos 0) (omega (arith, length-set (m .variables) 10 (pos 0))))))
       (λ n.
       rw (ne-eqb v 10 n)
-      (neither refl (ne-eqb v 10 n)
+      (neither refl (λ h. let q : v ≡ 10 = cc in n q)
       (read-other (m .variables) v 10 z (λ q. n (sym q)))
       (read-other (m .variables) v 15 z (λ q. subst (λ (k : ℕ). T (not (readOnly k))) (sym q) w))))
 
-  left-moving : {e : Effect} (motion : Motion) → inError e ≡ false → toER e ≡ false → Leaves e (m .variables) (set (m .variables) 14 (movingBit motion))
+  left-moving : {e : Effect} (motion : Motion) → inError e ≡ false → (StoresER e → ⊥) → Leaves e (m .variables) (set (m .variables) 14 (movingBit motion))
   left-moving motion p q =
       neither p q (read-other (m .variables) 14 10 (movingBit motion) (λ e. omega arith)) (read-other (m .variables) 14 15 (movingBit motion) (λ e. omega arith))
 
   left : (e : Effect) → Sound cells variables holds m e → Left e
-  unfolding applied inMotion called returned inError toER
+  unfolding applied inMotion called returned inError
   left (Fails error) s = left-erring error
   left (Stores v z) s = left-storing v z (s .1) (s .2)
-  left Passes s = neither refl refl refl refl
-  left (Goes cell) s = neither refl refl refl refl
-  left (Calls cell) s = neither refl refl refl refl
-  left Returns s = neither refl refl refl refl
-  left Ends s = neither refl refl refl refl
-  left Stays s = neither refl refl refl refl
-  left (Holds turns) s = let p = held-variables turns m in neither refl refl (ap (λ (x : List ℤ). read x 10) p) (ap (λ (x : List ℤ). read x 15) p)
-  left (Arms cell) s = neither refl refl refl refl
-  left Disarms s = neither refl refl refl refl
-  left (Moves target kind z) s = left-moving (To target) refl refl
-  left (Slews z) s = left-moving (slew z) refl refl
-  left (Prints v z) s = neither refl refl refl refl
+  left Passes s = neither refl (no-store refl) refl refl
+  left (Goes cell) s = neither refl (no-store refl) refl refl
+  left (Calls cell) s = neither refl (no-store refl) refl refl
+  left Returns s = neither refl (no-store refl) refl refl
+  left Ends s = neither refl (no-store refl) refl refl
+  left Stays s = neither refl (no-store refl) refl refl
+  left (Holds turns) s = let p = held-variables turns m in neither refl (no-store refl) (ap (λ (x : List ℤ). read x 10) p) (ap (λ (x : List ℤ). read x 15) p)
+  left (Arms cell) s = neither refl (no-store refl) refl refl
+  left Disarms s = neither refl (no-store refl) refl refl
+  left (Moves target kind z) s = left-moving (To target) refl (no-store refl)
+  left (Slews z) s = left-moving (slew z) refl (no-store refl)
+  left (Prints v z) s = neither refl (no-store refl) refl refl
 
 -- Clearing leaves ER, and makes EF 0.
 er-cleared : (t : Bool) (vars : List ℤ) → read (clearing t vars) 10 ≡ read vars 10
@@ -155,9 +139,6 @@ module _ (d : Deed) (before after : List ℤ) (size : length after ≡ 64) where
   no-error : inError E ≡ false → Erring E → ⊥
   no-error p h = true≢false (sym (in-error E .1 h) ∙ p)
 
-  no-store : toER E ≡ false → StoresER E → ⊥
-  no-store p h = true≢false (sym (stores-so h) ∙ p)
-
   clears-so : d .reads ≡ true → inError E ≡ false → clears d ≡ true
   unfolding clears
   clears-so p q = rw (p, q)
@@ -181,11 +162,11 @@ module _ (d : Deed) (before after : List ℤ) (size : length after ≡ 64) where
     flags-by (erring error e y er f) =
         let one : ef ≡ pos 1 = ef-stays (error-clears-nothing d e) ∙ f in
         record {
-          cleared = λ b. (λ a. absurd (apart a one), λ h. absurd (⊎-elim (no-store y) (λ r. r .1 (error, e)) h));
+          cleared = λ b. (λ a. absurd (apart a one), λ h. absurd (⊎-elim y (λ r. r .1 (error, e)) h));
           raised = λ b. (λ a. (error, e), λ h. one);
           flag = flag;
           told = λ k q. let n : error ≡ k = cc in er-cleared (clears d) after ∙ er ∙ ap pos n;
-          emptied = λ h. absurd (no-store y h);
+          emptied = λ h. absurd (y h);
           kept = λ n o. absurd (n (error, e));
         }
     flags-by (storing e x er f) =
@@ -199,11 +180,11 @@ module _ (d : Deed) (before after : List ℤ) (size : length after ≡ 64) where
         }
     flags-by (neither x y er f) =
         record {
-          cleared = λ b. (by-reading (d .reads) refl b, ⊎-elim (λ h. absurd (no-store y h)) (λ r. ef-goes (clears-so (r .0) x)));
+          cleared = λ b. (by-reading (d .reads) refl b, ⊎-elim (λ h. absurd (y h)) (λ r. ef-goes (clears-so (r .0) x)));
           raised = λ b. (λ a. absurd (apart (ef-zero (f ∙ b)) a), λ h. absurd (no-error x h));
           flag = flag;
           told = λ k q. absurd (no-error x (k, q));
-          emptied = λ h. absurd (no-store y h);
+          emptied = λ h. absurd (y h);
           kept = λ n o. er-cleared (clears d) after ∙ er;
         }
       where
