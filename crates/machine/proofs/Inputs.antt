@@ -23,7 +23,7 @@ use Rattle.machine.specs.declared.Machine.{Machine}
 use Rattle.machine.specs.declared.Motion.{Motion}
 use Rattle.machine.specs.declared.Motion.the-variants.{Still, To, Slewing}
 use Rattle.events.specs.declared.Event.{Event}
-use Rattle.machine.specs.Turn.{withVariables, startMachine, stored, movingBit, inMotion, slew, called, returned, held, applied, clearing, turn}
+use Rattle.machine.specs.Turn.{withVariables, startMachine, stored, movingBit, inMotion, slew, called, returned, armed, held, applied, clearing, turn}
 use Rattle.events.specs.Events.{goodEvent}
 use Rattle.machine.specs.Happens.{input, arrivedBy, happens}
 use Rattle.machine.specs.Code.{Bit, Inputs, moving, Arrived, Happened}
@@ -82,7 +82,7 @@ module _ (m : Machine) (h : Inputs (m .variables)) where
   inputs-moving motion = inputs-below 14 (movingBit motion) (omega arith) h
 
   inputs-effect : (cells : ℕ) (e : Effect) → Sound (m .variables) (m .places .kept) e → Inputs (applied cells e m .machine .variables)
-  unfolding applied called returned
+  unfolding applied called returned armed
   inputs-effect cells (Fails error) s = rw (failed-variables m error) (inputs-below 15 (pos 1) (omega arith) (inputs-below 10 (pos error) (omega arith) h))
   inputs-effect cells (Stores v z) s = inputs-stored (m .variables) h v z s
   inputs-effect cells Passes s = h

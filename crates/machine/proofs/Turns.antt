@@ -27,7 +27,7 @@ use Rattle.machine.specs.declared.Control.{Control}
 use Rattle.machine.specs.declared.Motion.{Motion}
 use Rattle.events.specs.declared.Record.{Record}
 use Rattle.machine.specs.declared.Turned.{Turned}
-use Rattle.machine.specs.Turn.{noHandler, withVariables, withHandler, onward, nothing, recorded, turned, stored, called, flagged, failed, applied, clearing, turn}
+use Rattle.machine.specs.Turn.{noHandler, withVariables, onward, nothing, recorded, turned, stored, handled, flagged, failed, applied, clearing, turn}
 use Rattle.machine.specs.Code.{Acted, Ready, acts, moving, changed, joined, whole, turnBy}
 
 -- A store past the last variable changes nothing.
@@ -136,7 +136,7 @@ error-recorded error m = of-turned (eqb (m .handler) noHandler) (ltb (m .places 
   where
     of-turned : (a b : Bool) → recorded 6 0 (pos error)
         ≡ cond a (turned (onward (flagged error m)) (recorded 6 0 (pos error)))
-        (cond b (turned (called (m .handler) (withHandler noHandler (flagged error m))) (recorded 6 0 (pos error))) (record { machine = flagged error m; wrote = recorded 6 0 (pos error); stops = true })) .wrote
+        (cond b (turned (handled (flagged error m)) (recorded 6 0 (pos error))) (record { machine = flagged error m; wrote = recorded 6 0 (pos error); stops = true })) .wrote
     of-turned true b = refl
     of-turned false true = refl
     of-turned false false = refl
@@ -147,7 +147,7 @@ error-stops error m = by-places (eqb (m .handler) noHandler) (ltb (m .places .ke
   where
     by-places : (a b : Bool) → ltb (m .places .kept) 8 ≡ b → (not a && leb 8 (m .places .kept))
         ≡ cond a (turned (onward (flagged error m)) (recorded 6 0 (pos error)))
-        (cond b (turned (called (m .handler) (withHandler noHandler (flagged error m))) (recorded 6 0 (pos error))) (record { machine = flagged error m; wrote = recorded 6 0 (pos error); stops = true })) .stops
+        (cond b (turned (handled (flagged error m)) (recorded 6 0 (pos error))) (record { machine = flagged error m; wrote = recorded 6 0 (pos error); stops = true })) .stops
     by-places true b e = refl
     by-places false true e = lt-leb 8 (m .places .kept) (ltb-true (m .places .kept) 8 e)
     by-places false false e = le-leb 8 (m .places .kept) (ltb-false (m .places .kept) 8 e)
@@ -175,7 +175,7 @@ turned-by s first last cells cell m ctl {vars} {does = does} a ed ev ej ec ew es
 -- Turn 23: an error changes ER and EF, and no other variable.
 module _ (m : Machine) (error : ℕ) where
   failed-by : (t u : Bool) → eqb (m .handler) noHandler ≡ t → ltb (m .places .kept) 8 ≡ u → failed error m .machine .variables ≡ set (set (m .variables) 10 (pos error)) 15 (pos 1)
-  unfolding failed called flagged
+  unfolding failed handled flagged
   failed-by true u e f = rw e
   failed-by false true e f = rw (e, f)
   failed-by false false e f = rw (e, f)

@@ -7,14 +7,16 @@ ghost use lib.IntN.{ℤ, pos};
 ghost use lib.ListN.{length, set};
 ghost use Rattle.effects.specs.declared.Effect.the-variants.{Fails};
 ghost use Rattle.acting.specs.Code.{clearsBy};
-ghost use Rattle.machine.specs.Turn.{at, withHandler, onward, stored, movingBit, inMotion, slew, called, returned, held, failed, applied, clearing};
+ghost use Rattle.machine.specs.Turn.{at, onward, stored, movingBit, inMotion, slew, called, handled, returned, armed, held, failed, applied, clearing};
 ghost use Rattle.events.specs.Events.{badEvents, eventCount};
 ghost use Rattle.machine.specs.Code.{Inputs, Ready, acts, changed, joined, whole, turnBy};
 use crate::Control;
 use crate::Machine;
 use crate::Motion;
+use crate::Place;
 use crate::Places;
 use crate::Turned;
+use crate::calls::calls_only;
 use crate::calls::keep;
 use crate::calls::last_place;
 use crate::calls::release;
@@ -126,18 +128,32 @@ impl Control {
         ensures { λ r. ⌜ ((vars : List ℤ) → joined vars r ≡ called cell (joined vars self)) ⌝ }
     {
         let places = self.places;
-        self.places = keep(places, self.next + 1);
+        self.places = keep(places, Place::by_call(self.next + 1));
         self.next = cell;
         self
     }
 
-    // A return goes to the place kept last.
+    // The call of the handler keeps the following cell and the handler's target, and no handler is armed.
+    fn handled(mut self) -> Control
+        requires { ⌜ (self .next < 65535) × (self .places .kept < 8) ⌝ }
+        ensures { λ r. ⌜ ((vars : List ℤ) → joined vars r ≡ handled (joined vars self)) ⌝ }
+    {
+        let places = self.places;
+        self.places = keep(places, Place::by_handler(self.next + 1, self.handler));
+        self.next = self.handler;
+        self.handler = Machine::NO_HANDLER;
+        self
+    }
+
+    // A return goes to the place kept last, and arms the handler of a place that one kept.
     fn returned(mut self) -> Control
         requires { ⌜ 0 < self .places .kept ⌝ }
         ensures { λ r. ⌜ ((vars : List ℤ) → joined vars r ≡ returned (joined vars self)) ⌝ }
     {
         let places = self.places;
-        self.next = last_place(places);
+        let place = last_place(places);
+        self.next = place.cell;
+        self.handler = place.rearmed(self.handler);
         self.places = release(places);
         self
     }
@@ -155,10 +171,12 @@ impl Control {
         self
     }
 
-    // The handler is this cell, or none.
-    fn with_handler(mut self, cell: u16) -> Control
-        ensures { λ r. ⌜ ((vars : List ℤ) → joined vars r ≡ withHandler cell (joined vars self)) ⌝ }
+    // OE: the handler is this cell, or none, and every place is one that CL kept.
+    fn armed(mut self, cell: u16) -> Control
+        ensures { λ r. ⌜ ((vars : List ℤ) → joined vars r ≡ armed cell (joined vars self)) ⌝ }
     {
+        let places = self.places;
+        self.places = calls_only(places);
         self.handler = cell;
         self
     }
@@ -188,7 +206,7 @@ impl Control {
             return self.onward();
         }
         if self.places.kept < Places::MOST {
-            return self.with_handler(Machine::NO_HANDLER).called(self.handler);
+            return self.handled();
         }
         self
     }
@@ -221,8 +239,8 @@ impl Control {
             Effect::Ends => self.at(cells),
             Effect::Stays => self,
             Effect::Holds(turns) => self.held(turns),
-            Effect::Arms(handler) => self.with_handler(handler).onward(),
-            Effect::Disarms => self.with_handler(Machine::NO_HANDLER).onward(),
+            Effect::Arms(handler) => self.armed(handler).onward(),
+            Effect::Disarms => self.armed(Machine::NO_HANDLER).onward(),
             Effect::Moves {
                 target,
                 kind,

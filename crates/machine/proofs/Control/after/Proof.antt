@@ -5,7 +5,7 @@ use mathlib.Core.List.{[]}
 use mir.Val.{toZ, ofZ}
 use mir.Syntax.{w32}
 use Rattle.machine.specs.declared.Machine.{Machine}
-use Rattle.machine.specs.Turn.{noHandler, onward, applied}
+use Rattle.machine.specs.Turn.{noHandler, onward, armed, applied}
 use Rattle.machine.specs.Code.{changed}
 use Rattle.machine.proofs.Turns.{after-by, goes-onward}
 use borrow.Author.Needs.{needs}
@@ -19,10 +19,12 @@ returned-requires : tie.Need-returned-requires
 returned-requires c κs = c .before .before .pre .1 .returns (c .enum-told2 .given .1)
 
 onward-requires : tie.Need-onward-requires
-onward-requires c κs = rw (ap (λ (m : Machine). m .next) (c .with-handler .ensures [])) (c .before .before .before .before .pre .0)
+unfolding armed
+onward-requires c κs = rw (ap (λ (m : Machine). m .next) (c .armed .ensures [])) (c .before .before .before .before .pre .0)
 
 onward-requires-2 : tie.Need-onward-requires-2
-onward-requires-2 c κs = rw (ap (λ (m : Machine). m .next) (c .with-handler2 .ensures [])) (c .before .before .before .pre .0)
+unfolding armed
+onward-requires-2 c κs = rw (ap (λ (m : Machine). m .next) (c .armed2 .ensures [])) (c .before .before .before .pre .0)
 
 returns : tie.Need-returns
 unfolding applied
@@ -54,11 +56,11 @@ returns-7 c = after-by _ _ (c .before .before .does3 .given .1) (c .held .ensure
 
 returns-8 : tie.Need-returns-8
 unfolding applied changed
-returns-8 c = after-by _ _ (c .before .before .before .does4 .given .1) (λ vars. c .onward .ensures vars ∙ ap (λ (m : Machine). onward m) (c .before .with-handler .ensures vars))
+returns-8 c = after-by _ _ (c .before .before .before .does4 .given .1) (λ vars. c .onward .ensures vars ∙ ap (λ (m : Machine). onward m) (c .before .armed .ensures vars))
 
 returns-9 : tie.Need-returns-9
 unfolding applied changed noHandler
-returns-9 c = after-by _ _ (c .before .before .enum-told5 .given .1) (λ vars. c .onward2 .ensures vars ∙ ap (λ (m : Machine). onward m) (c .before .with-handler2 .ensures vars))
+returns-9 c = after-by _ _ (c .before .before .enum-told5 .given .1) (λ vars. c .onward2 .ensures vars ∙ ap (λ (m : Machine). onward m) (c .before .armed2 .ensures vars))
 
 returns-10 : tie.Need-returns-10
 unfolding applied changed

@@ -1,12 +1,9 @@
 -- `Control::failed` meets its contract: the tests come in the order of specs/.
 -- Assumes nothing.
-use mathlib.Core.Path.{ap, _∙_}
-use mathlib.Core.List.{[]}
 use native.Mathlib.Omega.{arith}
 use borrow.Author.Tests.{eq-eqb, ne-eqb, lt-ltb, le-ltb}
 use Rattle.effects.specs.declared.Effect.the-variants.{Fails}
-use Rattle.machine.specs.declared.Machine.{Machine}
-use Rattle.machine.specs.Turn.{noHandler, called, flagged, failed}
+use Rattle.machine.specs.Turn.{noHandler, flagged, failed}
 use Rattle.machine.specs.Code.{changed}
 use Rattle.machine.proofs.Control.failed.Statement.{statement}
 use Rattle.machine.proofs.Control.failed.Tie as tie
@@ -15,12 +12,9 @@ returns : tie.Need-returns
 unfolding failed flagged changed noHandler
 returns c = λ error vars. simp (eq-eqb _ _ (c .before .if1 .taken)) (c .onward .ensures (changed (Fails error) vars))
 
-called-requires : tie.Need-called-requires
-called-requires c κs = let w = c .with-handler .ensures [] in (rw (ap (λ (m : Machine). m .next) w) (c .before .before .before .before .before .pre), rw (ap (λ (m : Machine). m .places .kept) w) (c .before .if2 .taken))
-
 returns-2 : tie.Need-returns-2
 unfolding failed flagged changed noHandler
-returns-2 c = λ error vars. let v = changed (Fails error) vars in simp (ne-eqb _ _ (c .before .before .before .before .if1 .left), lt-ltb _ _ (c .before .before .if2 .taken)) (c .called .ensures v ∙ ap (called _) (c .before .with-handler .ensures v))
+returns-2 c = λ error vars. simp (ne-eqb _ _ (c .before .before .before .if1 .left), lt-ltb _ _ (c .before .if2 .taken)) (c .handled .ensures (changed (Fails error) vars))
 
 returns-3 : tie.Need-returns-3
 unfolding failed flagged changed noHandler
@@ -32,7 +26,6 @@ failed-spec =
     (tie.spec
     (λ c κs. omega arith)
     returns
-    (λ c κs. tt)
-    called-requires
+    (λ c κs. (omega arith, omega arith))
     returns-2
     returns-3)

@@ -1,4 +1,4 @@
--- `Control::returned` meets its contract: by what `release` and `last_place` ensure.
+-- `Control::returned` meets its contract: by what `last_place`, `rearmed` and `release` ensure.
 -- Assumes nothing.
 use native.Mathlib.Omega.{arith}
 use Rattle.machine.specs.Turn.{returned}
@@ -7,10 +7,11 @@ use Rattle.machine.proofs.Control.returned.Tie as tie
 
 returns : tie.Need-returns
 unfolding returned
-returns c = λ vars. rw (c .release .ensures, c .before .last-place .ensures)
+returns c = λ vars. rw (c .release .ensures, c .before .rearmed .ensures, c .before .before .last-place .ensures)
 
 pub returned-spec : {M : Type 1} → statement M
 returned-spec = tie.close (tie.spec
     (λ c κs. omega arith)
+    (λ c κs. tt)
     (λ c κs. omega arith)
     returns)
