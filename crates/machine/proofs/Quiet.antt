@@ -1,4 +1,4 @@
--- An event leaves the next cell as it is.
+-- An event leaves the next cell, the return places and the handler as they are.
 -- Assumes nothing.
 use mathlib.Core.Path.{_≡_, refl}
 use mathlib.Core.Bool.{Bool, true, false, cond}
@@ -16,12 +16,19 @@ of-three P true b h k l = h
 of-three P false true h k l = k
 of-three P false false h k l = l
 
-arrived-next : (k : Motion) (m : Machine) → arrivedBy k m .next ≡ m .next
+-- The next cell, the return places and the handler are the same.
+abbrev pub SameWay : Machine → Machine → Type 0
+SameWay m x = (x .next ≡ m .next) × (x .places ≡ m .places) × (x .handler ≡ m .handler)
+
+arrived-way : (k : Motion) (m : Machine) → SameWay m (arrivedBy k m)
 unfolding arrivedBy inMotion
-arrived-next Still m = refl
-arrived-next (To z) m = refl
-arrived-next (Slewing z) m = refl
+arrived-way Still m = (refl, refl, refl)
+arrived-way (To z) m = (refl, refl, refl)
+arrived-way (Slewing z) m = (refl, refl, refl)
+
+pub happens-way : (e : Event) (m : Machine) → SameWay m (happens e m)
+unfolding happens
+happens-way e m = of-three (SameWay m) (eqb (e .kind) 1) (eqb (e .kind) 2) (refl, refl, refl) (arrived-way (m .motion) m) (refl, refl, refl)
 
 pub happens-next : (e : Event) (m : Machine) → happens e m .next ≡ m .next
-unfolding happens
-happens-next e m = of-three (λ x. x .next ≡ m .next) (eqb (e .kind) 1) (eqb (e .kind) 2) refl (arrived-next (m .motion) m) refl
+happens-next e m = happens-way e m .0

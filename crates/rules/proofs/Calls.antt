@@ -14,7 +14,7 @@ use Rattle.effects.specs.Effects.{holds, calling, callingIf, effect}
 use Rattle.effects.specs.Deeds.{Deed, deed}
 use Rattle.machine.specs.declared.Machine.{Machine}
 use Rattle.machine.specs.declared.Turned.{Turned}
-use Rattle.machine.specs.Turn.{noHandler, keep, called, applied, turn}
+use Rattle.machine.specs.Turn.{noHandler, byCall, keep, called, applied, turn}
 use Rattle.rules.proofs.Errors.{Leaves, as-is, InError, in-error}
 
 -- Turn 23, Wrong 3: a turn in error 104 that does not go to this label. With no handler the following cell is next, with one the same
@@ -66,7 +66,7 @@ module _ {R : Type 0} (place number : R → ℕ) (m : Machine) (n : R) (c : Cond
         }
 
     -- Turn 12, Turn 13: where its condition holds and a place is free, it goes to its label and keeps the following cell.
-    pub call-made : met ≡ true → m .places .kept < 8 → Leaves (place n) (keep (m .places) (m .next + 1)) (m .handler) false (turn cells does m)
+    pub call-made : met ≡ true → m .places .kept < 8 → Leaves (place n) (keep (m .places) (byCall (m .next + 1))) (m .handler) false (turn cells does m)
     unfolding effect callingIf calling turn applied called
     call-made t k = rw (t, lt-ltb (m .places .kept) 8 k) (as-is _)
 

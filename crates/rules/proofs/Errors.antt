@@ -19,7 +19,7 @@ use Rattle.machine.specs.declared.Machine.{Machine}
 use Rattle.machine.specs.declared.Places.{Places}
 use Rattle.machine.specs.declared.Turned.{Turned}
 use Rattle.events.specs.declared.Event.{Event}
-use Rattle.machine.specs.Turn.{noHandler, turned, onward, withHandler, recorded, keep, called, flagged, failed, applied, clearing, turn}
+use Rattle.machine.specs.Turn.{noHandler, byHandler, turned, onward, recorded, keep, handled, flagged, failed, applied, clearing, turn}
 use Rattle.events.specs.Events.{recordBytes}
 use Rattle.machine.specs.Run.{reach, runFrom}
 use Rattle.machine.proofs.Traces.{ended, after}
@@ -42,8 +42,8 @@ pub record InError (error : ℕ) (m : Machine) (t : Turned) : Type 0 where
   pub wrote : t .wrote ≡ recorded 6 0 (pos error)
   -- Turn 24: no handler: the following cell is next, and places and handler stay.
   pub unarmed : m .handler ≡ noHandler → Leaves (m .next + 1) (m .places) (m .handler) false t
-  -- Turn 25: with a handler and a place free the handler is next; the following cell is kept, and no handler is armed.
-  pub armed : (m .handler ≡ noHandler → ⊥) → m .places .kept < 8 → Leaves (m .handler) (keep (m .places) (m .next + 1)) noHandler false t
+  -- Turn 25, Q-7 2: with a handler and a place free the handler is next; the following cell is kept with the handler's target, and no handler is armed.
+  pub armed : (m .handler ≡ noHandler → ⊥) → m .places .kept < 8 → Leaves (m .handler) (keep (m .places) (byHandler (m .next + 1) (m .handler))) noHandler false t
   -- Turn 25: a handler, and all eight places in use: the run stops, and nothing of these four changes.
   pub full : (m .handler ≡ noHandler → ⊥) → 8 ≤ m .places .kept → Leaves (m .next) (m .places) (m .handler) true t
 
@@ -57,13 +57,13 @@ halted error m = record { machine = flagged error m; wrote = recorded 6 0 (pos e
 
 each-way : (P : Turned → Type 0) (error : ℕ) (m : Machine)
     → P (turned (onward (flagged error m)) (recorded 6 0 (pos error)))
-    → P (turned (called (m .handler) (withHandler noHandler (flagged error m))) (recorded 6 0 (pos error)))
+    → P (turned (handled (flagged error m)) (recorded 6 0 (pos error)))
     → P (halted error m) → P (failed error m)
 unfolding failed
 each-way P error m a b c = chosen P (eqb (m .handler) noHandler) (λ k. a) (λ k. chosen P (ltb (m .places .kept) 8) (λ l. b) (λ l. c))
 
 pub applied-in-error : (cells error : ℕ) (m : Machine) → InError error m (applied cells (Fails error) m)
-unfolding applied failed flagged called keep
+unfolding applied failed flagged handled keep
 applied-in-error cells error m =
     record {
       variables = each-way (λ (t : Turned). t .machine .variables ≡ set (set (m .variables) 10 (pos error)) 15 (pos 1)) error m refl refl refl;

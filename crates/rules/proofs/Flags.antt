@@ -25,7 +25,7 @@ use Rattle.machine.specs.declared.Machine.{Machine}
 use Rattle.machine.specs.declared.Motion.{Motion}
 use Rattle.machine.specs.declared.Motion.the-variants.{Still, To, Slewing}
 use Rattle.events.specs.declared.Event.{Event}
-use Rattle.machine.specs.Turn.{stored, inMotion, movingBit, slew, called, returned, held, applied, clearing, turn}
+use Rattle.machine.specs.Turn.{stored, inMotion, movingBit, slew, called, returned, armed, held, applied, clearing, turn}
 use Rattle.events.specs.Events.{goodEvent}
 use Rattle.machine.specs.Happens.{input, arrivedBy, happens}
 use Rattle.machine.specs.Run.{plain, reach, traceFrom}
@@ -87,7 +87,7 @@ module _ (cells variables : ℕ) (holds : ℕ → Bool) (m : Machine) (l : lengt
       neither p q (read-other (m .variables) 14 10 (movingBit motion) (λ e. omega arith)) (read-other (m .variables) 14 15 (movingBit motion) (λ e. omega arith))
 
   left : (e : Effect) → Sound cells variables holds m e → Left e
-  unfolding applied inMotion called returned inError
+  unfolding applied inMotion called returned armed inError
   left (Fails error) s = left-erring error
   left (Stores v z) s = left-storing v z (s .1) (s .2)
   left Passes s = neither refl (no-store refl) refl refl

@@ -16,7 +16,7 @@ use Rattle.effects.specs.Errors.{valueOutside}
 use Rattle.effects.specs.Effects.{value, holding, effect}
 use Rattle.effects.specs.Deeds.{Deed, inError, clears, isER, readsER, deed}
 use Rattle.machine.specs.declared.Machine.{Machine}
-use Rattle.machine.specs.Turn.{noHandler, withVariables, onward, withHold, held, applied, clearing, turn}
+use Rattle.machine.specs.Turn.{noHandler, callsOnly, withVariables, onward, withHold, armed, held, applied, clearing, turn}
 use Rattle.rules.proofs.Errors.{Leaves, as-is}
 
 -- A turn that leaves so many turns of a hold; it clears EF where it reads ER.
@@ -119,12 +119,12 @@ module _ {R : Type 0} (place number : R → ℕ) (cells : ℕ) (x : Value R) whe
   unfolding effect holding
   hold-fails vars kept e = rw e
 
--- Turn 18: OE makes the label's place the handler, `OE 0` leaves none; the following cell is next, and the places are as they were.
+-- Turn 18, Q-7 3: OE makes the label's place the handler, `OE 0` leaves none; the following cell is next, and each return place is one that CL kept.
 module _ {R : Type 0} (place number : R → ℕ) (cells : ℕ) (m : Machine) where
-  pub arms : (n : R) → Leaves (m .next + 1) (m .places) (place n) false (turn cells (deed place number (m .variables) (m .places .kept) (m .hold) (OE n)) m)
-  unfolding effect applied turn
+  pub arms : (n : R) → Leaves (m .next + 1) (callsOnly (m .places)) (place n) false (turn cells (deed place number (m .variables) (m .places .kept) (m .hold) (OE n)) m)
+  unfolding effect applied turn armed
   arms n = as-is _
 
-  pub disarms : Leaves (m .next + 1) (m .places) noHandler false (turn cells (deed place number (m .variables) (m .places .kept) (m .hold) Disarm) m)
-  unfolding effect applied turn
+  pub disarms : Leaves (m .next + 1) (callsOnly (m .places)) noHandler false (turn cells (deed place number (m .variables) (m .places .kept) (m .hold) Disarm) m)
+  unfolding effect applied turn armed
   disarms = as-is _

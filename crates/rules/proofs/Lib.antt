@@ -8,6 +8,7 @@ pub mod Errors
 pub mod Calls
 pub mod Holding
 pub mod Flags
+pub mod Handlers
 pub mod Never
 pub mod Inside
 pub mod Later

@@ -1,7 +1,7 @@
 -- A ruled state by its parts, the registers and the way through the cells, and what each change of one part leaves.
 -- Assumes nothing.
 use mathlib.Core.Path.{_≡_, refl, sym, _∙_}
-use mathlib.Core.Bool.{Bool}
+use mathlib.Core.Bool.{Bool, true≢false}
 use mathlib.Core.List.{List}
 use mathlib.Core.Logic.{_⊎_, inl, inr, ⊎-elim}
 use Prim.Native.Nat.{ℕ, _+_, _*_, _-_, _≤_, _<_}
@@ -9,7 +9,7 @@ use native.Mathlib.Omega.{arith}
 use borrow.Author.Tests.{le-leb}
 use lib.Dec.{T, leb, leb→le, le→leb}
 use lib.IntN.{ℤ, pos, negsuc, _+ℤ_, _*ℤ_}
-use lib.ListN.{length, getD, set, length-set}
+use lib.ListN.{length, getD, set, length-set, length-map, List·getD-map}
 use lib.Seq.{getD-set-same, getD-set-other}
 use Rattle.numbers.specs.Tests.{between}
 use Rattle.numbers.proofs.Truth.{both, both-of, if-same}
@@ -17,12 +17,13 @@ use Rattle.program.specs.Variables.{rangeOf, present, allInputs}
 use Rattle.program.proofs.Ranges.{input-range}
 use Rattle.effects.specs.Effects.{read}
 use Rattle.machine.specs.declared.Machine.{Machine}
+use Rattle.machine.specs.declared.Place.{Place}
 use Rattle.machine.specs.declared.Places.{Places}
 use Rattle.machine.specs.declared.Motion.{Motion}
 use Rattle.machine.specs.declared.Motion.the-variants.{Still, To, Slewing}
 use Rattle.machine.specs.Happens.{input}
-use Rattle.machine.specs.Turn.{noHandler, machine, movingBit, keep, release}
-use Rattle.rules.specs.Rules.{Ruled, goodMotion}
+use Rattle.machine.specs.Turn.{noHandler, byCall, byHandler, unused, machine, movingBit, keep, release, callsOnly}
+use Rattle.rules.specs.Rules.{placeAt, RuledPlace, Ruled, goodMotion}
 use Rattle.rules.proofs.Values.{Values, errorNumber, mayHold, values-set, read-same, read-other, inputs-other}
 
 -- The variables with IN by the inputs and MV by the motion.
@@ -34,10 +35,10 @@ pub record Registers (variables : ℕ) (vars : List ℤ) (motion : Motion) : Typ
 
 -- The return places with their number.
 pub record Kept (cells : ℕ) (places : Places) : Type 0 where
-  pub there : length (places .cells) ≡ 8
+  pub there : length (places .all) ≡ 8
   pub most : places .kept ≤ 8
-  pub place-cells : (k : ℕ) → getD (places .cells) k 0 ≤ cells
-  pub unused : (k : ℕ) → places .kept ≤ k → getD (places .cells) k 0 ≡ 0
+  pub each : (k : ℕ) → RuledPlace cells (placeAt places k)
+  pub none : (k : ℕ) → places .kept ≤ k → placeAt places k ≡ unused
 
 -- The way through the cells: next cell, return places, handler and hold.
 pub record Way (cells : ℕ) (holds : ℕ → Bool) (next : ℕ) (places : Places) (handler hold : ℕ) : Type 0 where
@@ -61,7 +62,7 @@ module _ {cells variables : ℕ} {holds : ℕ → Bool} {m : Machine} (r : Ruled
   pub way-of : Way cells holds (m .next) (m .places) (m .handler) (m .hold)
   way-of =
       record {
-        back = record { there = r .all-there .1; most = r .kept; place-cells = r .places; unused = r .unused-places };
+        back = record { there = r .all-there .1; most = r .kept; each = r .places; none = r .unused-places };
         next-cell = r .next;
         handler-cell = r .handler;
         hold-most = r .hold;
@@ -81,11 +82,11 @@ module _ {cells variables : ℕ} {holds : ℕ → Bool} {vars : List ℤ} {next 
         motion = g .good-motion;
         next = w .next-cell;
         kept = w .back .most;
-        places = w .back .place-cells;
+        places = w .back .each;
         handler = w .handler-cell;
         hold = w .hold-most;
         hold-at = w .hold-at;
-        unused-places = w .back .unused;
+        unused-places = w .back .none;
         unused-variables = g .values .unused;
       }
 
@@ -165,20 +166,32 @@ module _ {variables : ℕ} {vars : List ℤ} {motion : Motion} (g : Registers va
         good-motion = g .good-motion;
       }
 
--- One place more; the place kept last is free again.
+-- A place that CL keeps, and one that the call of a handler keeps.
+pub call-ruled : {cells cell : ℕ} → cell ≤ cells → RuledPlace cells (byCall cell)
+call-ruled t = record { cell = t; target = omega arith; by-call = λ e. refl }
+
+pub handler-ruled : {cells cell target : ℕ} → cell ≤ cells → target ≤ cells → RuledPlace cells (byHandler cell target)
+handler-ruled t u = record { cell = t; target = u; by-call = λ e. absurd (true≢false e) }
+
+-- Q-7 3: a place after an OE.
+pub call-at : (places : Places) (k : ℕ) → placeAt (callsOnly places) k ≡ byCall (placeAt places k .cell)
+unfolding callsOnly
+call-at places k = List·getD-map (λ (place : Place). byCall (place .cell)) (places .all) k unused
+
+-- One place more; the place kept last is free again; each place as one that CL kept.
 module _ {cells : ℕ} {places : Places} (b : Kept cells places) where
-  pub keep-one : (cell : ℕ) → cell ≤ cells → places .kept < 8 → Kept cells (keep places cell)
+  pub keep-one : (place : Place) → RuledPlace cells place → places .kept < 8 → Kept cells (keep places place)
   unfolding keep
-  keep-one cell t k =
+  keep-one place t k =
       let l = b .there in
       record {
-        there = length-set (places .cells) (places .kept) cell ∙ b .there;
+        there = length-set (places .all) (places .kept) place ∙ b .there;
         most = omega arith;
-        place-cells =
+        each =
             λ i. if-same i (places .kept)
-            (λ e. rw (e, getD-set-same (places .cells) (places .kept) cell 0 (omega arith)) t)
-            (λ n. rw (getD-set-other (places .cells) (places .kept) i cell 0 n) (b .place-cells i));
-        unused = λ i h. getD-set-other (places .cells) (places .kept) i cell 0 (λ e. omega arith) ∙ b .unused i (omega arith);
+            (λ e. rw (e, getD-set-same (places .all) (places .kept) place unused (omega arith)) t)
+            (λ n. rw (getD-set-other (places .all) (places .kept) i place unused n) (b .each i));
+        none = λ i h. getD-set-other (places .all) (places .kept) i place unused (λ e. omega arith) ∙ b .none i (omega arith);
       }
 
   pub free-one : 0 < places .kept → Kept cells (release places)
@@ -186,21 +199,31 @@ module _ {cells : ℕ} {places : Places} (b : Kept cells places) where
   free-one k =
       let l = b .there in
       let m = b .most in
-      let same : getD (set (places .cells) (places .kept - 1) 0) (places .kept - 1) 0 ≡ 0 = getD-set-same (places .cells) (places .kept - 1) 0 0 (omega arith) in
+      let same : getD (set (places .all) (places .kept - 1) unused) (places .kept - 1) unused ≡ unused = getD-set-same (places .all) (places .kept - 1) unused unused (omega arith) in
       record {
-        there = length-set (places .cells) (places .kept - 1) 0 ∙ b .there;
+        there = length-set (places .all) (places .kept - 1) unused ∙ b .there;
         most = omega arith;
-        place-cells =
+        each =
             λ i. if-same i (places .kept - 1)
-            (λ e. rw e (omega arith))
-            (λ n. rw (getD-set-other (places .cells) (places .kept - 1) i 0 0 n) (b .place-cells i));
-        unused =
+            (λ e. rw (e, same) (call-ruled (omega arith)))
+            (λ n. rw (getD-set-other (places .all) (places .kept - 1) i unused unused n) (b .each i));
+        none =
             λ i h. if-same i (places .kept - 1)
             (λ e. rw e same)
-            (λ n. getD-set-other (places .cells) (places .kept - 1) i 0 0 n ∙ b .unused i (omega arith));
+            (λ n. getD-set-other (places .all) (places .kept - 1) i unused unused n ∙ b .none i (omega arith));
       }
 
--- On to another cell where no hold runs, with other places; another handler; so many turns of a hold.
+  pub calls-kept : Kept cells (callsOnly places)
+  unfolding callsOnly
+  calls-kept =
+      record {
+        there = length-map (places .all) _ ∙ b .there;
+        most = b .most;
+        each = λ i. rw (call-at places i) (call-ruled (b .each i .cell));
+        none = λ i h. call-at places i ∙ rw (b .none i h);
+      }
+
+-- On to another cell where no hold runs, with other places; another handler; so many turns of a hold; other places.
 module _ {cells : ℕ} {holds : ℕ → Bool} {next : ℕ} {places : Places} {handler hold : ℕ} (w : Way cells holds next places handler hold) where
   pub way-at : (to : ℕ) {others : Places} → to ≤ cells → Kept cells others → hold ≡ 0 → Way cells holds to others handler hold
   way-at to t b h = record { back = b; next-cell = t; handler-cell = w .handler-cell; hold-most = w .hold-most; hold-at = λ n. absurd (n h) }
@@ -210,3 +233,6 @@ module _ {cells : ℕ} {holds : ℕ → Bool} {next : ℕ} {places : Places} {ha
 
   pub way-hold : (turns : ℕ) → turns ≤ 64999 → T (holds next) → Way cells holds next places handler turns
   way-hold turns t h = record { back = w .back; next-cell = w .next-cell; handler-cell = w .handler-cell; hold-most = t; hold-at = λ n. h }
+
+  pub way-places : {others : Places} → Kept cells others → Way cells holds next others handler hold
+  way-places b = record { back = b; next-cell = w .next-cell; handler-cell = w .handler-cell; hold-most = w .hold-most; hold-at = w .hold-at }

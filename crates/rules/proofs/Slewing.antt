@@ -17,7 +17,7 @@ use Rattle.machine.specs.declared.Machine.{Machine}
 use Rattle.machine.specs.declared.Motion.{Motion}
 use Rattle.machine.specs.declared.Motion.the-variants.{Still, To, Slewing}
 use Rattle.events.specs.declared.Event.{Event}
-use Rattle.machine.specs.Turn.{startMachine, movingBit, inMotion, slew, called, returned, held, applied, turn}
+use Rattle.machine.specs.Turn.{startMachine, movingBit, inMotion, slew, called, returned, armed, held, applied, turn}
 use Rattle.machine.specs.Happens.{arrivedBy, happens}
 use Rattle.machine.specs.Run.{plain, courseOf, runFrom}
 use Rattle.machine.proofs.Quiet.{happens-next}
@@ -58,7 +58,7 @@ stops-still cells d m e =
 
 -- Turn 5, Turn 20: a turn makes none, whatever the statement does.
 applied-nonzero : (cells : ℕ) (e : Effect) (m : Machine) → NoZeroSlew (m .motion) → NoZeroSlew (applied cells e m .machine .motion)
-unfolding applied inMotion called returned held
+unfolding applied inMotion called returned armed held
 applied-nonzero cells (Fails error) m h = rw (applied-in-error cells error m .motion) h
 applied-nonzero cells (Stores v z) m h = h
 applied-nonzero cells Passes m h = h

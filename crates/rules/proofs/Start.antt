@@ -14,15 +14,15 @@ use Rattle.numbers.specs.Tests.{allBelow, eqZ}
 use Rattle.program.specs.Variables.{inRange, literals, rangeOf, present, startVariables, allInputs}
 use Rattle.program.proofs.Ranges.{user-range}
 use Rattle.effects.specs.Effects.{read}
-use Rattle.machine.specs.Turn.{startMachine, movingBit}
+use Rattle.machine.specs.Turn.{unused, startMachine, movingBit}
 use Rattle.rules.specs.Rules.{Ruled, goodMotion}
 use Rattle.numbers.proofs.Tests.{all-below}
 use Rattle.numbers.proofs.Truth.{both, both-of, either, left-of, right-of, if-below}
 use Rattle.rules.proofs.Values.{mayHold, eqZ-eq}
-use Rattle.rules.proofs.Parts.{together}
+use Rattle.rules.proofs.Parts.{together, call-ruled}
 
--- The same number everywhere, and past the end.
-everywhere : {A : Type 0} (n k : ℕ) (a : A) → getD (replicate n a) k a ≡ a
+-- The same everywhere, and past the end.
+pub everywhere : {A : Type 0} (n k : ℕ) (a : A) → getD (replicate n a) k a ≡ a
 everywhere zero k a = refl
 everywhere (suc n) zero a = refl
 everywhere (suc n) (suc k) a = everywhere n k a
@@ -139,8 +139,8 @@ module _ (values : List ℤ) (room : length values ≤ 32) where
             record {
               there = refl;
               most = omega arith;
-              place-cells = λ k. rw (everywhere {A = ℕ} 8 k 0) (omega arith);
-              unused = λ k l. everywhere {A = ℕ} 8 k 0;
+              each = λ k. rw (everywhere 8 k unused) (call-ruled (omega arith));
+              none = λ k l. everywhere 8 k unused;
             };
         next-cell = omega arith;
         handler-cell = λ n. absurd (n refl);

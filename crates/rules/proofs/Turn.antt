@@ -8,7 +8,7 @@ use Prim.Native.Nat.{ℕ, _+_, _-_, _≤_, _<_}
 use native.Mathlib.Omega.{arith}
 use lib.Dec.{T, eqb, leb, ltb, leb→le, ltb→lt, nltb→le, le→leb, T-not}
 use lib.IntN.{ℤ, pos, negsuc, natAbs}
-use lib.ListN.{set, getD}
+use lib.ListN.{set}
 use Rattle.numbers.specs.Tests.{allOf, anyOf, between, eqZ}
 use Rattle.numbers.proofs.Truth.{both, both-of, chosen, right-of, not-same, if-same, if-below}
 use Rattle.program.specs.Variables.{inRange, literals, holdRange, slewRange, rangeOf, present, readOnly}
@@ -21,14 +21,15 @@ use Rattle.effects.specs.Effects.{read, storing, storingResult, operate, zeroDi
 use Rattle.effects.specs.Deeds.{clears, deed}
 use Rattle.effects.proofs.Results.{result-error}
 use Rattle.machine.specs.declared.Machine.{Machine}
+use Rattle.machine.specs.declared.Place.{Place}
 use Rattle.machine.specs.declared.Motion.{Motion}
 use Rattle.machine.specs.declared.Motion.the-variants.{To}
 use Rattle.machine.specs.declared.Turned.{Turned}
-use Rattle.machine.specs.Turn.{noHandler, machine, withVariables, stored, keep, lastPlace, inMotion, slew, called, returned, held, flagged, failed, applied, clearing, turn}
-use Rattle.rules.specs.Rules.{Ruled, goodMotion}
+use Rattle.machine.specs.Turn.{noHandler, byCall, byHandler, withVariables, stored, keep, lastPlace, callsOnly, inMotion, slew, called, handled, rearmed, returned, armed, held, flagged, failed, applied, clearing, turn}
+use Rattle.rules.specs.Rules.{placeAt, RuledPlace, Ruled, goodMotion}
 use Rattle.rules.specs.Good.{Good, writable}
 use Rattle.rules.proofs.Values.{errorNumber, mayHold}
-use Rattle.rules.proofs.Parts.{Registers, Way, registers-of, way-of, together, registers-set, registers-move, keep-one, free-one, way-at, way-arm, way-hold}
+use Rattle.rules.proofs.Parts.{Registers, Way, registers-of, way-of, together, registers-set, registers-move, call-ruled, handler-ruled, keep-one, free-one, calls-kept, way-at, way-arm, way-hold, way-places}
 
 -- What a statement may store to ER (10) is 0; a variable that it may write is not among the read-only ones.
 pub zero-only : (z : ℤ) → T (between (pos 0) (pos 0) z) → z ≡ pos 0
@@ -184,22 +185,36 @@ module _ {cells variables : ℕ} {holds : ℕ → Bool} {m : Machine} (r : Ruled
       (λ e. right-of (eqZ (pos error) (pos 0)) (isError (pos error)) t))
       15 (pos 1) tt (λ e. omega arith) (inl (omega arith)) (λ n. tt) (λ e. absurd (omega arith))
 
-  called-way : (cell : ℕ) → cell ≤ cells → m .places .kept < 8 → m .hold ≡ 0
-      → Way cells holds cell (keep (m .places) (m .next + 1)) (m .handler) (m .hold)
-  called-way cell t k h = way-at (way-of r) cell t (keep-one (way-of r .back) (m .next + 1) (omega arith) k) h
+  called-way : (cell : ℕ) (place : Place) → cell ≤ cells → RuledPlace cells place → m .places .kept < 8 → m .hold ≡ 0
+      → Way cells holds cell (keep (m .places) place) (m .handler) (m .hold)
+  called-way cell place t p k h = way-at (way-of r) cell t (keep-one (way-of r .back) place p k) h
+
+  -- Q-7 3: what a return arms.
+  rearmed-cell : (place : Place) → RuledPlace cells place → (rearmed place (m .handler) ≡ noHandler → ⊥) → rearmed place (m .handler) ≤ cells
+  unfolding rearmed
+  rearmed-cell place p =
+      chosen (λ (h : ℕ). (h ≡ noHandler → ⊥) → h ≤ cells) (place .handler)
+      (λ t n. p .target)
+      (λ t n. r .handler n)
+
+  -- Q-7 3: OE.
+  armed-way : (cell : ℕ) → ((cell ≡ noHandler → ⊥) → cell ≤ cells) → m .hold ≡ 0 → Way cells holds (m .next + 1) (callsOnly (m .places)) cell (m .hold)
+  armed-way cell t h = way-arm (way-places (onward-way h) (calls-kept (way-of r .back))) cell t
 
   good-slew : (z : ℤ) → T (inRange slewRange z) → T (goodMotion (slew z))
   unfolding goodMotion slew
   good-slew z t = chosen (λ (x : Motion). T (goodMotion x)) (eqZ z (pos 0)) (λ k. tt) (λ k. t)
 
   ruled-failed : (error : ℕ) → T (isError (pos error)) → m .hold ≡ 0 → Ruled cells variables holds (failed error m .machine)
-  unfolding failed flagged called
+  unfolding failed flagged handled
   ruled-failed error t h =
       let g = flagged-registers error t in
       chosen (λ (x : Turned). Ruled cells variables holds (x .machine)) (eqb (m .handler) noHandler)
       (λ k. together g (onward-way h))
       (λ n. chosen (λ (x : Turned). Ruled cells variables holds (x .machine)) (ltb (m .places .kept) 8)
-      (λ k. together g (way-arm (called-way (m .handler) (r .handler (not-same (m .handler) noHandler n)) (ltb→lt (m .places .kept) 8 k) h) noHandler (λ o. absurd (o refl))))
+      (λ k.
+      let c = r .handler (not-same (m .handler) noHandler n) in
+      together g (way-arm (called-way (m .handler) (byHandler (m .next + 1) (m .handler)) c (handler-ruled (omega arith) c) (ltb→lt (m .places .kept) 8 k) h) noHandler (λ o. absurd (o refl))))
       (λ k. together g (way-of r)))
 
   ruled-held : (turns : ℕ) → turns ≤ 64999 → T (holds (m .next)) → Ruled cells variables holds (held turns m)
@@ -211,18 +226,21 @@ module _ {cells variables : ℕ} {holds : ℕ → Bool} {m : Machine} (r : Ruled
 
   -- An effect of that kind keeps the rules.
   pub ruled-effect : (e : Effect) → Sound cells variables holds m e → Ruled cells variables holds (applied cells e m .machine)
-  unfolding applied inMotion called returned lastPlace goodMotion
+  unfolding applied inMotion called returned armed lastPlace goodMotion
   ruled-effect (Fails error) s = ruled-failed error (s .0) (s .1)
   ruled-effect (Stores v z) s = together (stored-registers v z (s .0) (s .1) (s .2)) (onward-way (s .3))
   ruled-effect Passes s = together (registers-of r) (onward-way s)
   ruled-effect (Goes cell) s = together (registers-of r) (way-at (way-of r) cell (s .0) (way-of r .back) (s .1))
-  ruled-effect (Calls cell) s = together (registers-of r) (called-way cell (s .0) (s .1) (s .2))
-  ruled-effect Returns s = together (registers-of r) (way-at (way-of r) (getD (m .places .cells) (m .places .kept - 1) 0) (r .places (m .places .kept - 1)) (free-one (way-of r .back) (s .0)) (s .1))
+  ruled-effect (Calls cell) s = together (registers-of r) (called-way cell (byCall (m .next + 1)) (s .0) (call-ruled (omega arith)) (s .1) (s .2))
+  ruled-effect Returns s =
+      let place = placeAt (m .places) (m .places .kept - 1) in
+      let p = r .places (m .places .kept - 1) in
+      together (registers-of r) (way-arm (way-at (way-of r) (place .cell) (p .cell) (free-one (way-of r .back) (s .0)) (s .1)) (rearmed place (m .handler)) (rearmed-cell place p))
   ruled-effect Ends s = together (registers-of r) (way-at (way-of r) cells (omega arith) (way-of r .back) s)
   ruled-effect Stays s = r
   ruled-effect (Holds turns) s = ruled-held turns (s .0) (s .1)
-  ruled-effect (Arms cell) s = together (registers-of r) (way-arm (onward-way (s .1)) cell (λ o. s .0))
-  ruled-effect Disarms s = together (registers-of r) (way-arm (onward-way s) noHandler (λ o. absurd (o refl)))
+  ruled-effect (Arms cell) s = together (registers-of r) (armed-way cell (λ o. s .0) (s .1))
+  ruled-effect Disarms s = together (registers-of r) (armed-way noHandler (λ o. absurd (o refl)) s)
   ruled-effect (Moves target kind z) s = together (registers-move (registers-of r) (To target) (s .0)) (onward-way (s .1))
   ruled-effect (Slews z) s = together (registers-move (registers-of r) (slew z) (good-slew z (s .0))) (onward-way (s .1))
   ruled-effect (Prints v z) s = together (registers-of r) (onward-way s)

@@ -1,3 +1,4 @@
 pub mod Rules
 pub mod Good
 pub mod Flags
+pub mod Handlers
