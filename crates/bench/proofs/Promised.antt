@@ -33,7 +33,7 @@ abbrev Sized : Row → Type 0
 Sized r = r .answer .length ≡ length (r .image)
 
 sizes : Each Sized sheet
-sizes = (refl, (refl, (refl, (refl, (refl, (refl, (refl, (refl, (refl, (refl, (refl, (refl, (refl, (refl, tt))))))))))))))
+sizes = (refl, (refl, (refl, (refl, (refl, (refl, (refl, (refl, (refl, (refl, (refl, (refl, (refl, (refl, (refl, (refl, tt))))))))))))))))
 
 -- An answer by its parts.
 by-parts : (a : Translated) (n l k : ℕ) → a .number ≡ n → a .line ≡ l → a .length ≡ k → a ≡ answered n l k

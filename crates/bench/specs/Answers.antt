@@ -1,12 +1,17 @@
--- Document 01, "Events and records" and "Refusal numbers": what a run answers, whether it was an image's run or a text's own. No image.
+-- Document 01, "Events and records" and "Refusal numbers", and document 02, "A handler that arms itself again": what a run answers, whether it was an image's run
+-- or a text's own. No image.
 -- Assumes nothing.
+use mathlib.Core.Bool.{cond}
+use mathlib.Core.List.{map}
 use Prim.Native.Nat.{ℕ, _/_}
 use lib.IntN.{ℤ, pos}
 use lib.ListN.{length, replicate}
 use Rattle.machine.specs.declared.Machine.{Machine}
+use Rattle.machine.specs.declared.Place.{Place}
 use Rattle.machine.specs.declared.Motion.{Motion}
 use Rattle.machine.specs.declared.Motion.the-variants.{Still, To, Slewing}
 use Rattle.machine.specs.Run.{Course}
+use Rattle.bench.specs.declared.StatePlace.{StatePlace}
 use Rattle.bench.specs.declared.State.{State}
 use Rattle.bench.specs.declared.Ran.{Ran}
 
@@ -21,13 +26,17 @@ motionValue Still = pos 0
 motionValue (To z) = z
 motionValue (Slewing z) = z
 
--- Events 7: every part of the final state.
+-- Q-7 2, Q-7 4: a return place in an answer: its mark is 0 where CL kept it or it is unused, and 1 where the call of a handler kept it, with that handler's target.
+unfoldable pub placeOf : Place → StatePlace
+placeOf place = record { cell = place .cell; target = place .target; mark = cond (place .handler) 1 0 }
+
+-- Events 7, Q-7 4: every part of the final state.
 unfoldable pub stateOf : Machine → State
 stateOf m =
     record {
       variables = m .variables;
       next = m .next;
-      places = m .places .cells;
+      places = map placeOf (m .places .all);
       kept = m .places .kept;
       handler = m .handler;
       hold = m .hold;
@@ -36,12 +45,15 @@ stateOf m =
     }
 
 -- Refusals 23: the state of a refused run.
+abbrev pub noPlace : StatePlace
+noPlace = record { cell = 0; target = 0; mark = 0 }
+
 unfoldable pub noState : State
 noState =
     record {
       variables = replicate 64 (pos 0);
       next = 0;
-      places = replicate 8 0;
+      places = replicate 8 noPlace;
       kept = 0;
       handler = 0;
       hold = 0;

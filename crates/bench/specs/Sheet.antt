@@ -1,4 +1,4 @@
--- Document 01, "Bench sheet": its rows a to l in one table, which holds by computation; row f by Q-6 3, and a row more for Q-2 3.
+-- Document 01, "Bench sheet": its rows a to l in one table, which holds by computation; row f by Q-6 3, a row more for Q-2 3 and two for Q-7 3.
 -- Assumes nothing.
 use mathlib.Core.Path.{_≡_, refl}
 use mathlib.Core.List.{List, [], _∷_, _++_}
@@ -41,6 +41,8 @@ use Rattle.bench.specs.Translating.{translated, translatedInto}
 use Rattle.bench.specs.Running.{ran, ranInto}
 use Rattle.bench.specs.Following.{followed, followedInto}
 use Rattle.bench.specs.declared.Translated.{Translated}
+use Rattle.bench.specs.Answers.{noPlace}
+use Rattle.bench.specs.declared.StatePlace.{StatePlace}
 use Rattle.bench.specs.declared.State.{State}
 use Rattle.bench.specs.declared.Ran.{Ran}
 
@@ -59,7 +61,7 @@ start =
       variables =
           pos 0 ∷ pos 0 ∷ pos 0 ∷ pos 0 ∷ pos 0 ∷ pos 0 ∷ pos 1000000 ∷ pos 1000000 ∷ pos 1000 ∷ pos 768000 ∷ replicate 54 (pos 0);
       next = 0;
-      places = 0 ∷ 0 ∷ 0 ∷ 0 ∷ 0 ∷ 0 ∷ 0 ∷ 0 ∷ [];
+      places = replicate 8 noPlace;
       kept = 0;
       handler = 65535;
       hold = 0;
@@ -88,6 +90,33 @@ next n s =
       places = s .places;
       kept = s .kept;
       handler = s .handler;
+      hold = s .hold;
+      motion = s .motion;
+      value = s .value;
+    }
+
+-- With another handler, and with the first return place kept and no handler.
+abbrev pub handler : ℕ → State → State
+handler cell s =
+    record {
+      variables = s .variables;
+      next = s .next;
+      places = s .places;
+      kept = s .kept;
+      handler = cell;
+      hold = s .hold;
+      motion = s .motion;
+      value = s .value;
+    }
+
+abbrev pub keeping : StatePlace → State → State
+keeping place s =
+    record {
+      variables = s .variables;
+      next = s .next;
+      places = set (s .places) 0 place;
+      kept = 1;
+      handler = 65535;
       hold = s .hold;
       motion = s .motion;
       value = s .value;
@@ -172,6 +201,48 @@ readingImage =
 abbrev pub erred : ℕ → ℕ → State
 erred error cells = next cells (variable 10 (pos error) (variable 15 (pos 1) start))
 
+-- A handler at cell 4 that counts and returns, called by an `RT` with no place kept, and a second time by another: the text, its image, the record of an error
+-- 105 in a turn, and the states inside the first call and at the end.
+abbrev pub again : List ℕ
+again = ascii "OE AA\nRT\nRT\nE\nLB AA\nIC R1\nRT\n"
+
+abbrev pub arming : ℕ → List ℕ
+arming target = 0x0A ∷ 0x00 ∷ 0x00 ∷ 0x00 ∷ 0x00 ∷ 0x00 ∷ 0x00 ∷ 0x00 ∷ 0x00 ∷ 0x00 ∷ 0x00 ∷ 0x00 ∷ target ∷ 0x00 ∷ 0x00 ∷ 0x00 ∷ []
+
+abbrev pub againImage : List ℕ
+againImage =
+    arming 0x04
+    ++ (padded (0x07 ∷ [])
+    ++ (padded (0x07 ∷ [])
+    ++ (padded (0x08 ∷ [])
+    ++ (padded (0x03 ∷ 0x01 ∷ [])
+    ++ (padded (0x07 ∷ [])
+    ++ (0x41 ∷ 0x41 ∷ 0x04 ∷ 0x00
+    ∷ 0x60 ∷ 0x00 ∷ 0x00 ∷ 0x00 ∷ 0x06 ∷ 0x00 ∷ 0x01 ∷ 0x00 ∷ 0x00 ∷ 0x00 ∷ 0x01 ∷ 0x00 ∷ 0x74 ∷ 0x00 ∷ 0x00 ∷ 0x00 ∷ []))))))
+
+abbrev pub wrong : ℕ → List ℕ
+wrong turn = turn ∷ 0 ∷ 0 ∷ 0 ∷ 6 ∷ 0 ∷ 0 ∷ 0 ∷ 105 ∷ 0 ∷ 0 ∷ 0 ∷ []
+
+abbrev pub inHandler : State
+inHandler = keeping (record { cell = 2; target = 4; mark = 1 }) (variable 1 (pos 1) (erred 105 5))
+
+abbrev pub armedAgain : State
+armedAgain = handler 4 (variable 1 (pos 2) (erred 105 6))
+
+-- A handler at cell 3 that has an `OE 0`, so that its return arms nothing.
+abbrev pub ownChoice : List ℕ
+ownChoice = ascii "OE AA\nRT\nE\nLB AA\nOE 0\nRT\n"
+
+abbrev pub ownChoiceImage : List ℕ
+ownChoiceImage =
+    arming 0x03
+    ++ (padded (0x07 ∷ [])
+    ++ (padded (0x08 ∷ [])
+    ++ (0x0A ∷ 0x00 ∷ 0x00 ∷ 0x00 ∷ 0x00 ∷ 0x00 ∷ 0x00 ∷ 0x00 ∷ 0x00 ∷ 0x00 ∷ 0x00 ∷ 0x00 ∷ 0xFF ∷ 0xFF ∷ 0x00 ∷ 0x00
+    ∷ (padded (0x07 ∷ [])
+    ++ (0x41 ∷ 0x41 ∷ 0x03 ∷ 0x00
+    ∷ 0x50 ∷ 0x00 ∷ 0x00 ∷ 0x00 ∷ 0x05 ∷ 0x00 ∷ 0x01 ∷ 0x00 ∷ 0x00 ∷ 0x00 ∷ 0x01 ∷ 0x00 ∷ 0x64 ∷ 0x00 ∷ 0x00 ∷ 0x00 ∷ [])))))
+
 -- The sheet.
 abbrev pub sheet : List Row
 sheet =
@@ -207,6 +278,9 @@ sheet =
     (trial [] 5 1 1 0 [] (next 1 (variable 8 (pos 767999) start)) ∷ [])
     ∷ row "Q-2 3" (ascii "RT\nR1=EF+ER") (answer 0 0 48) readingImage
     (trial [] 5 1 2 1 (0 ∷ 0 ∷ 0 ∷ 0 ∷ 6 ∷ 0 ∷ 0 ∷ 0 ∷ 105 ∷ 0 ∷ 0 ∷ 0 ∷ []) (next 2 (variable 10 (pos 105) (variable 1 (pos 106) start))) ∷ [])
+    ∷ row "Q-7 3" again (answer 0 0 116) againImage
+    (trial [] 9 1 8 2 (wrong 1 ++ wrong 4) armedAgain ∷ trial [] 3 3 3 1 (wrong 1) inHandler ∷ [])
+    ∷ row "Q-7 3" ownChoice (answer 0 0 100) ownChoiceImage (trial [] 9 1 5 1 (wrong 1) (erred 105 5) ∷ [])
     ∷ []
 
 -- A run of the row's image and of its text, each into a buffer of just the size required.
@@ -225,5 +299,5 @@ Holds r =
     × Each (RunsAs r) (r .trials)
 
 pub sheet-holds : Each Holds sheet
-unfolding Bits.digits32 Bits.signed32 Bits.eachDigit Bits.on32 Bits.and32 Bits.or32 Bits.xor32 Bytes.bytes Bytes.number Bytes.field Bytes.ascii Tests.eqZ Tests.eqList Tests.allOf Tests.anyOf Tests.allBelow Tests.anyBelow Tests.firstBelow Tests.listed Tests.numbered Tests.lowest List.flatMap Cells.noTarget Cells.operatorNumber Cells.comparisonNumber Cells.operatorOf Cells.comparisonOf Cells.operandOf Cells.jumpOf Cells.cellOf Cells.valueOf Cells.conditionOf Cells.holdOf Cells.statementBy Cells.statementOf Names.letter Names.digit Names.wordCharacter Names.mnemonics Names.variableNames Names.paperVariable Names.paperWord Names.twoCharacters Names.userName DriveWords.driveWords Names.reserved Names.freeName Statements.compared Statements.operands Statements.writes Statements.targets Variables.rangeOf Variables.startVariables Variables.allInputs Variables.mostCells Variables.mostLabels Variables.mostVariables Faults.overlong Faults.longLine Faults.badForm Faults.tooBig Faults.bigValue Faults.bigIn Faults.bigLiteral Faults.declares Faults.reservedName Faults.heard Faults.makesCell Faults.makesLabel Faults.makesVariable Faults.howMany Faults.declaresIt Faults.repeated Faults.tooMany Faults.firstMakes Faults.unknownVariable Faults.unknownValue Faults.unknownIn Faults.undeclared Faults.readOnlyWritten Faults.faults Faults.faultsFrom Faults.said Faults.textFaults Faults.firstFrom Faults.firstFault Faults.placeOf Faults.rankOf Faults.numberOf Forms.operatorSign Forms.comparisonSign Forms.meant Forms.operatorMeant Forms.comparisonMeant Forms.digits Forms.decimal Forms.literal Forms.variableName Forms.variable Forms.operand Forms.put Forms.word Forms.sign Forms.takes Forms.fill Forms.forms Forms.byForm Forms.statement Forms.reading Lines.ontoFirstLine Lines.lines Tokens.printable Tokens.uncommented Tokens.joins Tokens.ontoFirstToken Tokens.tokens Check.badLength Check.badEdition Check.badTrailer Check.layouts Check.goodWritten Check.goodSelector Check.goodOperand Check.goodTarget Check.fits Check.badCell Check.badCells Check.recordPlace Check.recordName Check.badName Check.badTarget Check.badStart Check.badRecords Check.imageFaults Check.checked Layout.shape Layout.operandNumber Layout.cellBytes Layout.labelBytes Layout.variableBytes Layout.imageLength Layout.trailerBytes Layout.trailerPlace Layout.firstLabelPlace Layout.cellCount Layout.labelCount Layout.variableCount Layout.edition Layout.wholeLength Layout.operandAt Layout.cellAt Layout.labelPlace Layout.labelTarget Layout.variablePlace Layout.startValue Layout.startValues Layout.nameAt Errors.resultError Effects.read Effects.storing Effects.storingResult Effects.operate Effects.zeroDivisor Effects.storingWith Effects.compares Effects.calling Effects.returning Effects.waiting Effects.holding Effects.moving Effects.slewing Effects.value Effects.holds Effects.printing Effects.branching Effects.callingIf Effects.effect Deeds.inError Deeds.clears Deeds.isER Deeds.readsER Events.eventAt Events.eventCount Events.events Happens.input Happens.arrivedBy Happens.happens Events.goodEvent Events.badScript Events.badEvent Events.badEvents Events.firstBadEvent Events.recordBytes Run.reachBy Run.traceOn Run.finally Run.courseOf Turn.noHandler Turn.startMachine Turn.stored Turn.storeRecord Turn.keep Turn.release Turn.lastPlace Turn.movingBit Turn.inMotion Turn.slew Turn.called Turn.returned Turn.held Turn.flagged Turn.failed Turn.applied Turn.clearing Turn.turn Places.lineAt Places.starts Following.lineActs Following.linesCourse Following.textCourse Following.followed Following.followedInto Running.checkedAs Courses.cellActs Courses.imageCourse Answers.motionNumber Answers.motionValue Answers.stateOf Answers.noState Answers.ranAs Answers.refusedAs Running.bigBudget Running.smallRoom Running.runFaults Running.runRefusal Running.refusalIndex Running.ran Run.over Running.ranInto Images.cellPart Images.labelPart Images.variablePart Images.imageOf Images.image Images.accepted Translating.tooShort Translating.translated Translating.translatedInto
-sheet-holds = ((refl, refl, tt), ((refl, refl, ((refl, refl, refl, refl), tt)), ((refl, refl, ((refl, refl, refl, refl), ((refl, refl, refl, refl), tt))), ((refl, refl, ((refl, refl, refl, refl), tt)), ((refl, refl, ((refl, refl, refl, refl), tt)), ((refl, refl, ((refl, refl, refl, refl), tt)), ((refl, refl, ((refl, refl, refl, refl), tt)), ((refl, refl, ((refl, refl, refl, refl), tt)), ((refl, refl, ((refl, refl, refl, refl), tt)), ((refl, refl, tt), ((refl, refl, ((refl, refl, refl, refl), tt)), ((refl, refl, ((refl, refl, refl, refl), tt)), ((refl, refl, ((refl, refl, refl, refl), tt)), ((refl, refl, ((refl, refl, refl, refl), tt)), tt))))))))))))))
+unfolding Bits.digits32 Bits.signed32 Bits.eachDigit Bits.on32 Bits.and32 Bits.or32 Bits.xor32 Bytes.bytes Bytes.number Bytes.field Bytes.ascii Tests.eqZ Tests.eqList Tests.allOf Tests.anyOf Tests.allBelow Tests.anyBelow Tests.firstBelow Tests.listed Tests.numbered Tests.lowest List.flatMap Cells.noTarget Cells.operatorNumber Cells.comparisonNumber Cells.operatorOf Cells.comparisonOf Cells.operandOf Cells.jumpOf Cells.cellOf Cells.valueOf Cells.conditionOf Cells.holdOf Cells.statementBy Cells.statementOf Names.letter Names.digit Names.wordCharacter Names.mnemonics Names.variableNames Names.paperVariable Names.paperWord Names.twoCharacters Names.userName DriveWords.driveWords Names.reserved Names.freeName Statements.compared Statements.operands Statements.writes Statements.targets Variables.rangeOf Variables.startVariables Variables.allInputs Variables.mostCells Variables.mostLabels Variables.mostVariables Faults.overlong Faults.longLine Faults.badForm Faults.tooBig Faults.bigValue Faults.bigIn Faults.bigLiteral Faults.declares Faults.reservedName Faults.heard Faults.makesCell Faults.makesLabel Faults.makesVariable Faults.howMany Faults.declaresIt Faults.repeated Faults.tooMany Faults.firstMakes Faults.unknownVariable Faults.unknownValue Faults.unknownIn Faults.undeclared Faults.readOnlyWritten Faults.faults Faults.faultsFrom Faults.said Faults.textFaults Faults.firstFrom Faults.firstFault Faults.placeOf Faults.rankOf Faults.numberOf Forms.operatorSign Forms.comparisonSign Forms.meant Forms.operatorMeant Forms.comparisonMeant Forms.digits Forms.decimal Forms.literal Forms.variableName Forms.variable Forms.operand Forms.put Forms.word Forms.sign Forms.takes Forms.fill Forms.forms Forms.byForm Forms.statement Forms.reading Lines.ontoFirstLine Lines.lines Tokens.printable Tokens.uncommented Tokens.joins Tokens.ontoFirstToken Tokens.tokens Check.badLength Check.badEdition Check.badTrailer Check.layouts Check.goodWritten Check.goodSelector Check.goodOperand Check.goodTarget Check.fits Check.badCell Check.badCells Check.recordPlace Check.recordName Check.badName Check.badTarget Check.badStart Check.badRecords Check.imageFaults Check.checked Layout.shape Layout.operandNumber Layout.cellBytes Layout.labelBytes Layout.variableBytes Layout.imageLength Layout.trailerBytes Layout.trailerPlace Layout.firstLabelPlace Layout.cellCount Layout.labelCount Layout.variableCount Layout.edition Layout.wholeLength Layout.operandAt Layout.cellAt Layout.labelPlace Layout.labelTarget Layout.variablePlace Layout.startValue Layout.startValues Layout.nameAt Errors.resultError Effects.read Effects.storing Effects.storingResult Effects.operate Effects.zeroDivisor Effects.storingWith Effects.compares Effects.calling Effects.returning Effects.waiting Effects.holding Effects.moving Effects.slewing Effects.value Effects.holds Effects.printing Effects.branching Effects.callingIf Effects.effect Deeds.inError Deeds.clears Deeds.isER Deeds.readsER Events.eventAt Events.eventCount Events.events Happens.input Happens.arrivedBy Happens.happens Events.goodEvent Events.badScript Events.badEvent Events.badEvents Events.firstBadEvent Events.recordBytes Run.reachBy Run.traceOn Run.finally Run.courseOf Turn.noHandler Turn.startMachine Turn.stored Turn.storeRecord Turn.keep Turn.release Turn.lastPlace Turn.callsOnly Turn.movingBit Turn.inMotion Turn.slew Turn.called Turn.handled Turn.rearmed Turn.returned Turn.armed Turn.held Turn.flagged Turn.failed Turn.applied Turn.clearing Turn.turn Places.lineAt Places.starts Following.lineActs Following.linesCourse Following.textCourse Following.followed Following.followedInto Running.checkedAs Courses.cellActs Courses.imageCourse Answers.motionNumber Answers.motionValue Answers.placeOf Answers.stateOf Answers.noState Answers.ranAs Answers.refusedAs Running.bigBudget Running.smallRoom Running.runFaults Running.runRefusal Running.refusalIndex Running.ran Run.over Running.ranInto Images.cellPart Images.labelPart Images.variablePart Images.imageOf Images.image Images.accepted Translating.tooShort Translating.translated Translating.translatedInto
+sheet-holds = ((refl, refl, tt), ((refl, refl, ((refl, refl, refl, refl), tt)), ((refl, refl, ((refl, refl, refl, refl), ((refl, refl, refl, refl), tt))), ((refl, refl, ((refl, refl, refl, refl), tt)), ((refl, refl, ((refl, refl, refl, refl), tt)), ((refl, refl, ((refl, refl, refl, refl), tt)), ((refl, refl, ((refl, refl, refl, refl), tt)), ((refl, refl, ((refl, refl, refl, refl), tt)), ((refl, refl, ((refl, refl, refl, refl), tt)), ((refl, refl, tt), ((refl, refl, ((refl, refl, refl, refl), tt)), ((refl, refl, ((refl, refl, refl, refl), tt)), ((refl, refl, ((refl, refl, refl, refl), tt)), ((refl, refl, ((refl, refl, refl, refl), tt)), ((refl, refl, ((refl, refl, refl, refl), ((refl, refl, refl, refl), tt))), ((refl, refl, ((refl, refl, refl, refl), tt)), tt))))))))))))))))

@@ -1,14 +1,18 @@
 // The parts of the answers: a state, and the refusals.
 ghost use mathlib.Core.Path.{_≡_};
-ghost use Rattle.bench.specs.Answers.{stateOf, noState, refusedAs, motionNumber, motionValue};
+ghost use mathlib.Core.List.{map};
+ghost use Rattle.bench.specs.Answers.{placeOf, noPlace, stateOf, noState, refusedAs, motionNumber, motionValue};
 ghost use Rattle.bench.specs.Translating.{answered};
 ghost use Rattle.bench.specs.Listings.{listAnswered};
 use crate::Listed;
 use crate::Ran;
 use crate::State;
+use crate::StatePlace;
 use crate::Translated;
 use machine::Machine;
 use machine::Motion;
+use machine::Place;
+use machine::Places;
 
 // The refusals of a text that are not those of a line.
 pub const LONG_TEXT: u8 = 1;
@@ -80,20 +84,54 @@ fn motion_value(motion: Motion) -> i32
     }
 }
 
+// The mark of a return place in an answer.
+const BY_CALL: u8 = 0;
+
+const BY_HANDLER: u8 = 1;
+
+fn place_of(place: Place) -> StatePlace
+    ensures { λ r. ⌜ r ≡ placeOf place ⌝ }
+{
+    if place.handler {
+        return StatePlace {
+            cell: place.cell,
+            target: place.target,
+            mark: BY_HANDLER,
+        };
+    }
+    StatePlace {
+        cell: place.cell,
+        target: place.target,
+        mark: BY_CALL,
+    }
+}
+
+// All eight return places.
+fn places_of(places: Places) -> [StatePlace; 8]
+    ensures { λ r. ⌜ r ≡ map placeOf (places .all) ⌝ }
+{
+    let all = places.all;
+    let mut told = [no_place(); 8];
+    for i in 0..8 {
+        told[i] = place_of(all[i]);
+    }
+    told
+}
+
 // Every part of a machine's state.
 pub fn state_of(machine: Machine) -> State
     ensures { λ r. ⌜ r ≡ stateOf machine ⌝ }
 {
     let variables = machine.variables;
     let places = machine.places;
-    let cells = places.cells;
+    let told = places_of(places);
     let motion = machine.motion;
     let number = motion_number(motion);
     let value = motion_value(motion);
     State {
         variables,
         next: machine.next,
-        places: cells,
+        places: told,
         kept: places.kept,
         handler: machine.handler,
         hold: machine.hold,
@@ -102,11 +140,21 @@ pub fn state_of(machine: Machine) -> State
     }
 }
 
+fn no_place() -> StatePlace
+    ensures { λ r. ⌜ r ≡ noPlace ⌝ }
+{
+    StatePlace {
+        cell: 0,
+        target: 0,
+        mark: BY_CALL,
+    }
+}
+
 fn no_state() -> State
     ensures { λ r. ⌜ r ≡ noState ⌝ }
 {
     let variables = [0i32; 64];
-    let places = [0u16; 8];
+    let places = [no_place(); 8];
     State {
         variables,
         next: 0,

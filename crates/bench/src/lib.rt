@@ -21,11 +21,18 @@ pub struct Listed {
     pub length: usize,
 }
 
+// A return place: the cell to return to. The mark is 1 where the call of a handler kept it, with that handler's target; else both are 0.
+pub struct StatePlace {
+    pub cell: u16,
+    pub target: u16,
+    pub mark: u8,
+}
+
 // A machine's state. The handler is 65535 where there is none; the motion is 0 still, 1 a move, 2 a slew, and its value the target or the velocity.
 pub struct State {
     pub variables: [i32; 64],
     pub next: u16,
-    pub places: [u16; 8],
+    pub places: [StatePlace; 8],
     pub kept: u8,
     pub handler: u16,
     pub hold: u32,

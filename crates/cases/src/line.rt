@@ -1,6 +1,7 @@
 // The line of an answer, number by number. What it holds goes out whenever it is long, and at its end.
 use bench::Ran;
 use bench::State;
+use bench::StatePlace;
 use libc::STDOUT_FILENO;
 use parts::Line;
 use parts::writing;
@@ -46,15 +47,30 @@ fn separator(before: u8, start: usize, i: usize) -> u8 {
     if i == start { before } else { b',' }
 }
 
-fn place(line: Line, before: u8, value: u16) -> Line {
-    line.byte(before).number(value as u64)
-}
-
-fn places(mut line: Line, values: [u16; 8]) -> Line {
+// The cells of the return places, and their marks: 0, or 1 and the target of the handler whose call kept the place.
+fn places(mut line: Line, values: [StatePlace; 8]) -> Line {
     for i in 0..8 {
-        line = place(line, separator(b' ', 0, i), values[i]);
+        line = cell(line, separator(b' ', 0, i), values[i]);
     }
     line
+}
+
+fn cell(line: Line, before: u8, place: StatePlace) -> Line {
+    line.byte(before).number(place.cell as u64)
+}
+
+fn marks(mut line: Line, values: [StatePlace; 8]) -> Line {
+    for i in 0..8 {
+        line = mark(line, separator(b' ', 0, i), values[i]);
+    }
+    line
+}
+
+fn mark(line: Line, before: u8, place: StatePlace) -> Line {
+    if place.mark == 0 {
+        return line.byte(before).number(0);
+    }
+    line.byte(before).number(1 + place.target as u64)
 }
 
 // The variables from number `start` to before `end`.
@@ -83,6 +99,7 @@ fn state(mut line: Line, state: State) -> Line {
     line = number(line, state.next as u64);
     line = number(line, state.kept as u64);
     line = places(line, kept);
+    line = marks(line, kept);
     line = motion(line, state.handler, state.hold, state.motion, state.value);
     line = variables(line, b' ', values, FIXED_START, FIXED_END);
     variables(line, b',', values, USER_START, USER_END)

@@ -1,10 +1,11 @@
 // What a run answered, as a line of words and numbers. A part is left out where it is as usual: a number that is 0, a place that is 0, a
 // handler that is none, a variable with the value that it has at the start; where the run is refused, all that is 0. So two runs that differ
-// have different lines. A place stands as `p0=3`, a variable as `ER=104`, a user variable by its number as `32=7`, and a record as
+// have different lines. A return place stands as `p0=3`, with `m0=1 t0=4` behind it where the call of the handler at cell 4 kept it, a variable as `ER=104`, a user variable by its number as `32=7`, and a record as
 // `[turn kind number value]`.
 use crate::words;
 use bench::Ran;
 use bench::State;
+use bench::StatePlace;
 use events::Event;
 use parts::Line;
 
@@ -75,19 +76,25 @@ fn state(mut line: Line, state: State, refused: bool) -> Line {
     variables(line, values, refused)
 }
 
-fn places(mut line: Line, places: [u16; 8]) -> Line {
+fn places(mut line: Line, places: [StatePlace; 8]) -> Line {
     for i in 0..8 {
         line = place(line, i, places[i]);
     }
     line
 }
 
-fn place(mut line: Line, i: usize, place: u16) -> Line {
-    if place == 0 {
+fn place(mut line: Line, i: usize, place: StatePlace) -> Line {
+    line = numbered(line, b'p', i, place.cell as u64);
+    line = numbered(line, b'm', i, place.mark as u64);
+    numbered(line, b't', i, place.target as u64)
+}
+
+fn numbered(mut line: Line, letter: u8, i: usize, n: u64) -> Line {
+    if n == 0 {
         return line;
     }
-    line = line.byte(b' ').byte(b'p').number(i as u64);
-    line.byte(b'=').number(place as u64)
+    line = line.byte(b' ').byte(letter).number(i as u64);
+    line.byte(b'=').number(n)
 }
 
 fn handler(line: Line, handler: u64, refused: bool) -> Line {

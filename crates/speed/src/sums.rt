@@ -3,6 +3,7 @@ use bench::Checked;
 use bench::Listed;
 use bench::Ran;
 use bench::State;
+use bench::StatePlace;
 use bench::Translated;
 
 // Every sum is below this.
@@ -24,8 +25,10 @@ fn signed(sum: u64, z: i32) -> u64 {
     mixed(sum, ((numbers::digits(z) as u64) + HALF) % WRAP)
 }
 
-fn place(sum: u64, n: u16) -> u64 {
-    mixed(sum, n as u64)
+fn place(start: u64, place: StatePlace) -> u64 {
+    let mut sum = mixed(start, place.cell as u64);
+    sum = mixed(sum, place.target as u64);
+    mixed(sum, place.mark as u64)
 }
 
 fn byte(sum: u64, b: u8) -> u64 {
@@ -83,7 +86,7 @@ fn state(start: u64, end: State) -> u64 {
     variables(sum, values)
 }
 
-fn places(start: u64, values: [u16; 8]) -> u64 {
+fn places(start: u64, values: [StatePlace; 8]) -> u64 {
     let mut sum = start;
     for i in 0..8 {
         sum = place(sum, values[i]);

@@ -1,0 +1,18 @@
+-- `marks` is safe and ends.
+-- Assumes nothing.
+use Prim.Native.Nat.{_-_}
+use borrow.Author.Needs.{needs}
+use Rattle.cases.proofs.line.marks.Statement.{statement}
+use Rattle.cases.proofs.line.marks.Tie as tie
+
+abbrev Inv-loop : tie.InvT-loop
+Inv-loop line₀ values i₀ line i = Unit {0}
+
+abbrev μ-loop : tie.MeasureT-loop
+μ-loop line₀ values i₀ line i = 8 - i
+
+pub marks-spec : {M : Type 1} → statement M
+marks-spec =
+    tie.close
+    (tie.spec Inv-loop μ-loop (search needs) (search needs) (search needs) (search needs) (search needs) (search needs) (search needs)
+    (search needs) (search needs))
