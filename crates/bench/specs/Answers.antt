@@ -4,12 +4,14 @@
 use mathlib.Core.Bool.{cond}
 use mathlib.Core.List.{map}
 use Prim.Native.Nat.{ℕ, _/_}
+use lib.Dec.{eqb}
 use lib.IntN.{ℤ, pos}
 use lib.ListN.{length, replicate}
 use Rattle.machine.specs.declared.Machine.{Machine}
 use Rattle.machine.specs.declared.Place.{Place}
 use Rattle.machine.specs.declared.Motion.{Motion}
 use Rattle.machine.specs.declared.Motion.the-variants.{Still, To, Slewing}
+use Rattle.machine.specs.Turn.{noHandler}
 use Rattle.machine.specs.Run.{Course}
 use Rattle.bench.specs.declared.StatePlace.{StatePlace}
 use Rattle.bench.specs.declared.State.{State}
@@ -26,9 +28,13 @@ motionValue Still = pos 0
 motionValue (To z) = z
 motionValue (Slewing z) = z
 
--- Q-7 2, Q-7 4: a return place in an answer: its mark is 0 where CL kept it or it is unused, and 1 where the call of a handler kept it, with that handler's target.
+-- Q-7 2, Q-7 4, Q-7 5: a return place in an answer: mark and target are 0 where CL kept it or it is unused; where the call of a handler kept it, the mark is 1 and
+-- the target the handler's.
 unfoldable pub placeOf : Place → StatePlace
-placeOf place = record { cell = place .cell; target = place .target; mark = cond (place .handler) 1 0 }
+placeOf place =
+    cond (eqb (place .handler) noHandler)
+    (record { cell = place .cell; target = 0; mark = 0 })
+    (record { cell = place .cell; target = place .handler; mark = 1 })
 
 -- Events 7, Q-7 4: every part of the final state.
 unfoldable pub stateOf : Machine → State

@@ -92,17 +92,17 @@ const BY_HANDLER: u8 = 1;
 fn place_of(place: Place) -> StatePlace
     ensures { λ r. ⌜ r ≡ placeOf place ⌝ }
 {
-    if place.handler {
+    if place.handler == Machine::NO_HANDLER {
         return StatePlace {
             cell: place.cell,
-            target: place.target,
-            mark: BY_HANDLER,
+            target: 0,
+            mark: BY_CALL,
         };
     }
     StatePlace {
         cell: place.cell,
-        target: place.target,
-        mark: BY_CALL,
+        target: place.handler,
+        mark: BY_HANDLER,
     }
 }
 

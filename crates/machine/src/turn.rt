@@ -151,10 +151,10 @@ impl Control {
         ensures { λ r. ⌜ ((vars : List ℤ) → joined vars r ≡ returned (joined vars self)) ⌝ }
     {
         let places = self.places;
-        let place = last_place(places);
-        self.next = place.cell;
-        self.handler = place.rearmed(self.handler);
         self.places = release(places);
+        let place = last_place(places);
+        self.handler = place.rearmed(self.handler);
+        self.next = place.cell;
         self
     }
 
@@ -171,7 +171,7 @@ impl Control {
         self
     }
 
-    // OE: the handler is this cell, or none, and every place is one that CL kept.
+    // OE: the handler is this cell, or none, and every kept place is one that CL kept.
     fn armed(mut self, cell: u16) -> Control
         ensures { λ r. ⌜ ((vars : List ℤ) → joined vars r ≡ armed cell (joined vars self)) ⌝ }
     {

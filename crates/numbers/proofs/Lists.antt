@@ -6,14 +6,53 @@ use mathlib.Core.Logic.{⊎-elim}
 use Prim.Native.Nat.{ℕ, zero, suc, _+_, _≤_, _<_}
 use native.Mathlib.Nat.{eq-or-lt-of-le}
 use native.Mathlib.Omega.{arith}
-use lib.ListN.{length, getD, set, take}
-use lib.Seq.{take-suc, take-suc-set, take-all}
+use lib.ListN.{length, getD, set, take, drop}
+use lib.Seq.{getD-set-same, set-getD, take-suc, take-suc-set, take-all}
 
 -- What is made of each of two lists, one behind the other.
 pub flat-append : {A B : Type 0} (f : A → List B) (xs ys : List A) → flatMap f (xs ++ ys) ≡ flatMap f xs ++ flatMap f ys
 unfolding flatMap
 flat-append f [] ys = refl
 flat-append {A} {B} f (x ∷ xs) ys = ap (λ (l : List B). f x ++ l) (flat-append f xs ys) ∙ sym (append-assoc (f x) (flatMap f xs) (flatMap f ys))
+
+-- A place that a list has holds the same whatever stands for those past the end.
+pub within : {A : Type 0} (l : List A) (i : ℕ) (d e : A) → i < length l → getD l i d ≡ getD l i e
+within {A} l i d e h = sym (ap (λ (z : List A). getD z i d) (set-getD l i e)) ∙ getD-set-same l i (getD l i e) d h
+
+-- The first n elements of a list changed by a function: one more of them, and each of the list by its place.
+module _ {A : Type 0} (f : A → A) where
+  abbrev pub changedFirst : ℕ → List A → List A
+  changedFirst n l = map f (take n l) ++ drop n l
+
+  pub changed-more : (l : List A) (n : ℕ) (d : A) → n < length l → set (changedFirst n l) n (f (getD (changedFirst n l) n d)) ≡ changedFirst (suc n) l
+  changed-more [] n d h = absurd (omega arith)
+  changed-more (x ∷ l) zero d h = refl
+  changed-more (x ∷ l) (suc n) d h = ap (λ (xs : List A). f x ∷ xs) (changed-more l n d (omega arith))
+
+  pub changed-all : (l : List A) (n : ℕ) → length l ≤ n → changedFirst n l ≡ map f l
+  changed-all [] zero h = refl
+  changed-all [] (suc n) h = refl
+  changed-all (x ∷ l) zero h = absurd (omega arith)
+  changed-all (x ∷ l) (suc n) h = ap (λ (xs : List A). f x ∷ xs) (changed-all l n (omega arith))
+
+  pub changed-at : (l : List A) (n k : ℕ) (d : A) → k < n → k < length l → getD (changedFirst n l) k d ≡ f (getD l k d)
+  changed-at [] n k d h i = absurd (omega arith)
+  changed-at (x ∷ l) zero k d h i = absurd (omega arith)
+  changed-at (x ∷ l) (suc n) zero d h i = refl
+  changed-at (x ∷ l) (suc n) (suc k) d h i = changed-at l n k d (omega arith) (omega arith)
+
+  pub changed-past : (l : List A) (n k : ℕ) (d : A) → n ≤ k → getD (changedFirst n l) k d ≡ getD l k d
+  changed-past [] zero k d h = refl
+  changed-past [] (suc n) k d h = refl
+  changed-past (x ∷ l) zero k d h = refl
+  changed-past (x ∷ l) (suc n) zero d h = absurd (omega arith)
+  changed-past (x ∷ l) (suc n) (suc k) d h = changed-past l n k d (omega arith)
+
+  pub length-changed : (l : List A) (n : ℕ) → length (changedFirst n l) ≡ length l
+  length-changed [] zero = refl
+  length-changed [] (suc n) = refl
+  length-changed (x ∷ l) zero = refl
+  length-changed (x ∷ l) (suc n) = ap suc (length-changed l n)
 
 -- A list is filled, place by place, with what a function makes of another's elements.
 module _ {A B : Type 0} (f : A → B) (l : List A) (out : List B) where

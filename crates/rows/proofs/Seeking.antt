@@ -9,9 +9,10 @@ use native.Mathlib.Omega.{arith}
 use borrow.Author.Tests.{lt-ltb, le-ltb}
 use lib.Dec.{T, eqb, ltb}
 use lib.ListN.{length, getD, set, replicate, length-replicate, length-set, getD-replicate, List·getD-eq-default}
-use lib.Seq.{set-out, set-getD, getD-set-same, getD-set-other}
+use lib.Seq.{set-out, getD-set-same, getD-set-other}
 use Rattle.numbers.specs.Tests.{eqList, anyOf, Each}
 use Rattle.numbers.proofs.Truth.{is-true, true-is, if-below, of-both}
+use Rattle.numbers.proofs.Lists.{within}
 use Rattle.numbers.proofs.Tests.{eqList-refl, eqList-eq}
 use Rattle.program.specs.Names.{Name, paperVariable, twoCharacters, userName}
 use Rattle.program.proofs.Keys.{user-two, user-no-paper}
@@ -57,10 +58,6 @@ module _ (rows : List Row) (long : length rows ≡ 936) (v w : Name) (t : T (two
   enter-at false e =
       of-both (λ (z : List Row). getD z (rowOf w) noRow ≡ getD rows (rowOf w) noRow) (ltb 0 (kind (rowAt rows v))) refl
       (getD-set-other rows (rowOf v) (rowOf w) r noRow (λ h. rows-apart v w t e (sym h)))
-
--- A place that a list has holds the same whatever stands for those past the end.
-within : (rows : List Row) (i : ℕ) (d e : Row) → i < length rows → getD rows i d ≡ getD rows i e
-within rows i d e h = sym (ap (λ (z : List Row). getD z i d) (set-getD rows i e)) ∙ getD-set-same rows i (getD rows i e) d h
 
 -- A name past the rows; one in whose row something stands, or nothing.
 module _ (rows : List Row) (w : Name) {i : ℕ} (e : i ≡ rowOf w) where

@@ -1,12 +1,12 @@
 -- Q-7: what a turn does to the handler and to the places that its calls kept; in a run from the start at most one place is a handler's, and then none is armed.
 -- Assumes nothing.
 use mathlib.Core.Path.{_≡_, refl, sym, ap, _∙_, subst}
-use mathlib.Core.Bool.{Bool, true, false, cond, false≢true}
+use mathlib.Core.Bool.{Bool, true, false}
 use mathlib.Core.List.{List}
 use mathlib.Core.Logic.{_↔_, _⊎_, inl, inr, ⊎-elim}
 use Prim.Native.Nat.{ℕ, suc, _+_, _-_, _≤_, _<_}
 use native.Mathlib.Omega.{arith}
-use borrow.Author.Tests.{eqb-true, eqb-false, ltb-true, ltb-false}
+use borrow.Author.Tests.{eq-eqb, ne-eqb, eqb-true, eqb-false, ltb-true, ltb-false}
 use lib.Dec.{T, eqb, ltb}
 use lib.IntN.{ℤ}
 use lib.ListN.{length, getD, set}
@@ -52,13 +52,13 @@ quiet : {e : Effect} → eqb (tagOf the-type e) 9 ≡ false → eqb (tagOf the-t
 quiet n o p = record { no-choice = ⊎-elim (λ h. apart n (h .1)) (apart o); no-return = apart p }
 
 -- A place that is the same is marked too.
-still-marked : {p q : Place} → p ≡ q → q .handler ≡ true → p .handler ≡ true
-still-marked e t = ap (λ (p : Place). p .handler) e ∙ t
+still-marked : {p q : Place} → p ≡ q → (q .handler ≡ noHandler → ⊥) → p .handler ≡ noHandler → ⊥
+still-marked e t n = t (ap (λ (p : Place). p .handler) (sym e) ∙ n)
 
 -- A place after one was kept, and after one was released.
 module _ {c : ℕ} {places : Places} (kept : Kept c places) where
   not-marked : (k : ℕ) → places .kept ≤ k → Marked places k → ⊥
-  not-marked k h t = false≢true (sym (ap (λ (p : Place). p .handler) (kept .none k h)) ∙ t)
+  not-marked k h t = t (ap (λ (p : Place). p .handler) (kept .none k h))
 
   kept-here : (place : Place) → places .kept < 8 → placeAt (keep places place) (places .kept) ≡ place
   unfolding keep
@@ -74,7 +74,7 @@ module _ {c : ℕ} {places : Places} (kept : Kept c places) where
   call-unmarked : (cell k : ℕ) → places .kept < 8 → Marked (keep places (byCall cell)) k → Marked places k
   call-unmarked cell k h t =
       if-same k (places .kept)
-      (λ e. absurd (false≢true (sym (ap (λ (p : Place). p .handler) (kept-here (byCall cell) h)) ∙ subst (Marked (keep places (byCall cell))) e t)))
+      (λ e. absurd (subst (Marked (keep places (byCall cell))) e t (ap (λ (p : Place). p .handler) (kept-here (byCall cell) h))))
       (λ n. still-marked (sym (kept-there (byCall cell) k n)) t)
 
   freed-here : placeAt (release places) (places .kept - 1) ≡ unused
@@ -170,7 +170,7 @@ module _ {c : ℕ} {places : Places} (kept : Kept c places) {e : Effect} {next h
         marked =
             λ k. (λ t. if-same k (places .kept) (λ e. inl (y, e)) (λ n. inr (still-marked (sym (kept-there kept place k n)) t, q .no-choice, λ x. q .no-return (x .0))),
             ⊎-elim
-            (λ c. subst (Marked (keep places place)) (sym (c .1)) (ap (λ (p : Place). p .handler) (kept-here kept place (y .2))))
+            (λ c. subst (Marked (keep places place)) (sym (c .1)) (still-marked (kept-here kept place (y .2)) (y .1)))
             (λ t. still-marked (kept-marked kept place k (t .0)) (t .0)));
         new = λ c. kept-here kept place (y .2);
         same = λ k t a b. kept-marked kept place k t;
@@ -190,30 +190,29 @@ module _ {c : ℕ} {places : Places} (kept : Kept c places) {e : Effect} {next h
       (record {
         marked =
             λ k. (λ t. if-same k last
-            (λ e. absurd (false≢true (sym (ap (λ (p : Place). p .handler) (freed-here kept)) ∙ subst (Marked (release places)) e t)))
+            (λ e. absurd (subst (Marked (release places)) e t (ap (λ (p : Place). p .handler) (freed-here kept))))
             (λ n. inr (still-marked (sym (freed-there kept k n)) t, no-choice, λ x. let l = x .1 in n (omega arith))),
             ⊎-elim (λ c. absurd (no-error (c .0 .0))) (λ t. still-marked (freed-there kept k (not-last kept k r (t .0) (t .2))) (t .0)));
         new = λ c. absurd (no-error (c .0));
         same = λ k t a b. freed-there kept k (not-last kept k r t b);
         unmarked = λ o. absurd (no-choice o);
         taken = λ k x. let l = x .1 in let e : k ≡ last = omega arith in subst (λ (i : ℕ). placeAt (release places) i ≡ unused) (sym e) (freed-here kept);
-        again = λ k x t. let l = x .1 in let e : last ≡ k = omega arith in rw (e, t);
+        again = λ k x t. let l = x .1 in let e : last ≡ k = omega arith in rw (e, ne-eqb (placeAt places k .handler) noHandler t);
         called = λ c. absurd (no-error (c .0));
         arms = λ cell e. absurd (no-choice (inl (cell, e)));
         disarms = λ e. absurd (no-choice (inr e));
-        stays = λ a b d. by-mark (placeAt places last .handler) refl (λ t. if-below last (places .kept) (λ l. d last (r, omega arith) t) (λ l. not-marked kept last l t));
+        stays =
+            λ a b d. if-same (placeAt places last .handler) noHandler
+            (λ e. rw (eq-eqb (placeAt places last .handler) noHandler e))
+            (λ t. absurd (if-below last (places .kept) (λ l. d last (r, omega arith) t) (λ l. not-marked kept last l t)));
       })
-    where
-      by-mark : (b : Bool) → placeAt places (places .kept - 1) .handler ≡ b → (Marked places (places .kept - 1) → ⊥) → cond (placeAt places (places .kept - 1) .handler) (placeAt places (places .kept - 1) .target) handler ≡ handler
-      by-mark true e n = absurd (n e)
-      by-mark false e n = rw e
   from-ways (choosing o n r p f g) =
       rw p
       (record {
-        marked = λ k. (λ t. absurd (false≢true (sym (ap (λ (p : Place). p .handler) (call-at places k)) ∙ t)), ⊎-elim (λ c. absurd (n (c .0 .0))) (λ t. absurd (t .1 o)));
+        marked = λ k. (λ t. absurd (t (ap (λ (p : Place). p .handler) (call-at kept k))), ⊎-elim (λ c. absurd (n (c .0 .0))) (λ t. absurd (t .1 o)));
         new = λ c. absurd (n (c .0));
         same = λ k t a b. absurd (a o);
-        unmarked = λ x k. call-at places k;
+        unmarked = λ x k. call-at kept k;
         taken = λ k x. absurd (r (x .0));
         again = λ k x t. absurd (r (x .0));
         called = λ c. absurd (n (c .0));
@@ -249,7 +248,7 @@ module _ {e : Effect} {next : ℕ} {places : Places} {handler : ℕ} {places′ 
 pub start-one : (values : List ℤ) → OneHandler (startMachine values .places) (startMachine values .handler)
 unfolding startMachine
 start-one values =
-    let none : (k : ℕ) → Marked (startMachine values .places) k → ⊥ = λ k t. false≢true (sym (ap (λ (p : Place). p .handler) (everywhere 8 k unused)) ∙ t) in
+    let none : (k : ℕ) → Marked (startMachine values .places) k → ⊥ = λ k t. t (ap (λ (p : Place). p .handler) (everywhere 8 k unused)) in
     record { one = λ j k s t. absurd (none j s); unarmed = λ k t. refl }
 
 -- What is told of next cell, places and handler is told of any equal ones.

@@ -119,7 +119,7 @@ module _ {R : Type 0} (place number : R → ℕ) (cells : ℕ) (x : Value R) whe
   unfolding effect holding
   hold-fails vars kept e = rw e
 
--- Turn 18, Q-7 3: OE makes the label's place the handler, `OE 0` leaves none; the following cell is next, and each return place is one that CL kept.
+-- Turn 18, Q-7 3: OE makes the label's place the handler, `OE 0` leaves none; the following cell is next, and each kept return place is one that CL kept.
 module _ {R : Type 0} (place number : R → ℕ) (cells : ℕ) (m : Machine) where
   pub arms : (n : R) → Leaves (m .next + 1) (callsOnly (m .places)) (place n) false (turn cells (deed place number (m .variables) (m .places .kept) (m .hold) (OE n)) m)
   unfolding effect applied turn armed

@@ -1,7 +1,7 @@
 -- A ruled state by its parts, the registers and the way through the cells, and what each change of one part leaves.
 -- Assumes nothing.
-use mathlib.Core.Path.{_≡_, refl, sym, _∙_}
-use mathlib.Core.Bool.{Bool, true≢false}
+use mathlib.Core.Path.{_≡_, refl, sym, ap, _∙_}
+use mathlib.Core.Bool.{Bool}
 use mathlib.Core.List.{List}
 use mathlib.Core.Logic.{_⊎_, inl, inr, ⊎-elim}
 use Prim.Native.Nat.{ℕ, _+_, _*_, _-_, _≤_, _<_}
@@ -9,10 +9,11 @@ use native.Mathlib.Omega.{arith}
 use borrow.Author.Tests.{le-leb}
 use lib.Dec.{T, leb, leb→le, le→leb}
 use lib.IntN.{ℤ, pos, negsuc, _+ℤ_, _*ℤ_}
-use lib.ListN.{length, getD, set, length-set, length-map, List·getD-map}
+use lib.ListN.{length, getD, set, length-set}
 use lib.Seq.{getD-set-same, getD-set-other}
 use Rattle.numbers.specs.Tests.{between}
-use Rattle.numbers.proofs.Truth.{both, both-of, if-same}
+use Rattle.numbers.proofs.Truth.{both, both-of, if-same, if-below}
+use Rattle.numbers.proofs.Lists.{changed-at, changed-past, length-changed}
 use Rattle.program.specs.Variables.{rangeOf, present, allInputs}
 use Rattle.program.proofs.Ranges.{input-range}
 use Rattle.effects.specs.Effects.{read}
@@ -22,7 +23,7 @@ use Rattle.machine.specs.declared.Places.{Places}
 use Rattle.machine.specs.declared.Motion.{Motion}
 use Rattle.machine.specs.declared.Motion.the-variants.{Still, To, Slewing}
 use Rattle.machine.specs.Happens.{input}
-use Rattle.machine.specs.Turn.{noHandler, byCall, byHandler, unused, machine, movingBit, keep, release, callsOnly}
+use Rattle.machine.specs.Turn.{noHandler, byCall, byHandler, asCall, unused, machine, movingBit, keep, release, callsOnly}
 use Rattle.rules.specs.Rules.{placeAt, RuledPlace, Ruled, goodMotion}
 use Rattle.rules.proofs.Values.{Values, errorNumber, mayHold, values-set, read-same, read-other, inputs-other}
 
@@ -168,15 +169,10 @@ module _ {variables : ℕ} {vars : List ℤ} {motion : Motion} (g : Registers va
 
 -- A place that CL keeps, and one that the call of a handler keeps.
 pub call-ruled : {cells cell : ℕ} → cell ≤ cells → RuledPlace cells (byCall cell)
-call-ruled t = record { cell = t; target = omega arith; by-call = λ e. refl }
+call-ruled t = record { cell = t; handler = λ n. absurd (n refl) }
 
 pub handler-ruled : {cells cell target : ℕ} → cell ≤ cells → target ≤ cells → RuledPlace cells (byHandler cell target)
-handler-ruled t u = record { cell = t; target = u; by-call = λ e. absurd (true≢false e) }
-
--- Q-7 3: a place after an OE.
-pub call-at : (places : Places) (k : ℕ) → placeAt (callsOnly places) k ≡ byCall (placeAt places k .cell)
-unfolding callsOnly
-call-at places k = List·getD-map (λ (place : Place). byCall (place .cell)) (places .all) k unused
+handler-ruled t u = record { cell = t; handler = λ n. u }
 
 -- One place more; the place kept last is free again; each place as one that CL kept.
 module _ {cells : ℕ} {places : Places} (b : Kept cells places) where
@@ -213,14 +209,24 @@ module _ {cells : ℕ} {places : Places} (b : Kept cells places) where
             (λ n. getD-set-other (places .all) (places .kept - 1) i unused unused n ∙ b .none i (omega arith));
       }
 
+  -- Q-7 3: each place after an OE; those that are not kept have no handler anyway.
+  pub call-at : (k : ℕ) → placeAt (callsOnly places) k ≡ asCall (placeAt places k)
+  unfolding callsOnly
+  call-at k =
+      let l = b .there in
+      let m = b .most in
+      if-below k (places .kept)
+      (λ h. changed-at asCall (places .all) (places .kept) k unused h (omega arith))
+      (λ h. changed-past asCall (places .all) (places .kept) k unused h ∙ b .none k h ∙ sym (ap asCall (b .none k h)))
+
   pub calls-kept : Kept cells (callsOnly places)
   unfolding callsOnly
   calls-kept =
       record {
-        there = length-map (places .all) _ ∙ b .there;
+        there = length-changed asCall (places .all) (places .kept) ∙ b .there;
         most = b .most;
-        each = λ i. rw (call-at places i) (call-ruled (b .each i .cell));
-        none = λ i h. call-at places i ∙ rw (b .none i h);
+        each = λ i. rw (call-at i) (call-ruled (b .each i .cell));
+        none = λ i h. call-at i ∙ rw (b .none i h);
       }
 
 -- On to another cell where no hold runs, with other places; another handler; so many turns of a hold; other places.

@@ -193,9 +193,9 @@ module _ {cells variables : ℕ} {holds : ℕ → Bool} {m : Machine} (r : Ruled
   rearmed-cell : (place : Place) → RuledPlace cells place → (rearmed place (m .handler) ≡ noHandler → ⊥) → rearmed place (m .handler) ≤ cells
   unfolding rearmed
   rearmed-cell place p =
-      chosen (λ (h : ℕ). (h ≡ noHandler → ⊥) → h ≤ cells) (place .handler)
-      (λ t n. p .target)
-      (λ t n. r .handler n)
+      chosen (λ (h : ℕ). (h ≡ noHandler → ⊥) → h ≤ cells) (eqb (place .handler) noHandler)
+      (λ t. r .handler)
+      (λ t. p .handler)
 
   -- Q-7 3: OE.
   armed-way : (cell : ℕ) → ((cell ≡ noHandler → ⊥) → cell ≤ cells) → m .hold ≡ 0 → Way cells holds (m .next + 1) (callsOnly (m .places)) cell (m .hold)

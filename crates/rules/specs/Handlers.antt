@@ -1,7 +1,6 @@
 -- Document 02, "A handler that arms itself again": what a turn does to the handler, and to the return places that calls of a handler kept.
 -- Assumes nothing.
 use mathlib.Core.Path.{_≡_}
-use mathlib.Core.Bool.{true}
 use mathlib.Core.Logic.{_↔_, _⊎_}
 use Prim.Native.Nat.{ℕ, suc, _+_, _<_}
 use Rattle.effects.specs.declared.Effect.{Effect}
@@ -10,14 +9,14 @@ use Rattle.effects.specs.Deeds.{Deed}
 use Rattle.machine.specs.declared.Machine.{Machine}
 use Rattle.machine.specs.declared.Places.{Places}
 use Rattle.machine.specs.declared.Turned.{Turned}
-use Rattle.machine.specs.Turn.{noHandler, byCall, byHandler, unused}
+use Rattle.machine.specs.Turn.{noHandler, byHandler, asCall, unused}
 use Rattle.machine.specs.Run.{Step}
 use Rattle.rules.specs.Rules.{placeAt}
 use Rattle.rules.specs.Flags.{Erring}
 
 -- Q-7 2: place k is one that the call of a handler kept.
 abbrev pub Marked : Places → ℕ → Type 0
-Marked places k = placeAt places k .handler ≡ true
+Marked places k = placeAt places k .handler ≡ noHandler → ⊥
 
 -- Turn 18: an effect that is an OE, `OE 0` among them.
 abbrev pub Chooses : Effect → Type 0
@@ -40,11 +39,11 @@ pub record Handlers (e : Effect) (next : ℕ) (places : Places) (handler : ℕ) 
   pub new : CallsHandler e places handler → placeAt places′ (places .kept) ≡ byHandler (next + 1) handler
   pub same : (k : ℕ) → Marked places k → (Chooses e → ⊥) → (Takes e places k → ⊥) → placeAt places′ k ≡ placeAt places k
   -- An OE leaves each place its cell; what a return took is unused.
-  pub unmarked : Chooses e → (k : ℕ) → placeAt places′ k ≡ byCall (placeAt places k .cell)
+  pub unmarked : Chooses e → (k : ℕ) → placeAt places′ k ≡ asCall (placeAt places k)
   pub taken : (k : ℕ) → Takes e places k → placeAt places′ k ≡ unused
   -- The handler: a return that takes a handler's place arms its target again, the call of the handler leaves none, an OE arms its own or none; by nothing
   -- else does it change.
-  pub again : (k : ℕ) → Takes e places k → Marked places k → handler′ ≡ placeAt places k .target
+  pub again : (k : ℕ) → Takes e places k → Marked places k → handler′ ≡ placeAt places k .handler
   pub called : CallsHandler e places handler → handler′ ≡ noHandler
   pub arms : (cell : ℕ) → e ≡ Arms cell → handler′ ≡ cell
   pub disarms : e ≡ Disarms → handler′ ≡ noHandler

@@ -1,7 +1,7 @@
 -- Document 01, "One turn", and document 02, "A handler that arms itself again": the rules for a state.
 -- Assumes nothing.
 use mathlib.Core.Path.{_≡_}
-use mathlib.Core.Bool.{Bool, true, false, _||_}
+use mathlib.Core.Bool.{Bool, true, _||_}
 use Prim.Native.Nat.{ℕ, _≤_}
 use lib.Dec.{T}
 use lib.IntN.{pos}
@@ -27,12 +27,11 @@ goodMotion (Slewing z) = inRange slewRange z
 abbrev pub placeAt : Places → ℕ → Place
 placeAt places k = getD (places .all) k unused
 
--- Turn 3, Q-7 5: the rules for a return place of a program with so many cells. The cell, and the handler's target, are at most the cell count; where CL kept
--- the place, or it is unused, the target is 0.
+-- Turn 3, Q-7 5: the rules for a return place of a program with so many cells: the cell, and the target of the handler whose call kept it, are at most the
+-- cell count. (That an answer tells no target where there is none, `placeOf` says.)
 pub record RuledPlace (cells : ℕ) (place : Place) : Type 0 where
   pub cell : place .cell ≤ cells
-  pub target : place .target ≤ cells
-  pub by-call : place .handler ≡ false → place .target ≡ 0
+  pub handler : (place .handler ≡ noHandler → ⊥) → place .handler ≤ cells
 
 -- Turn 3 to 5, Variables 4, Q-7 5: the rules for a state of a program with these counts; `holds k` says that cell k is an `H x`.
 pub record Ruled (cells variables : ℕ) (holds : ℕ → Bool) (m : Machine) : Type 0 where

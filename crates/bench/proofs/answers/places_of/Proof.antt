@@ -8,7 +8,6 @@ use borrow.Author.Needs.{needs}
 use lib.ListN.{length, take, length-set}
 use Rattle.numbers.proofs.Kit.{length-held}
 use Rattle.numbers.proofs.Lists.{filled-more, filled-all}
-use Rattle.machine.specs.Turn.{unused}
 use Rattle.bench.specs.Answers.{placeOf}
 use Rattle.bench.proofs.answers.places_of.Statement.{statement}
 use Rattle.bench.proofs.answers.places_of.Tie as tie
@@ -30,7 +29,7 @@ loop-again c =
     let k = at .inv .2 in
     let more : suc (at .i) ≡ at .i + 1 = omega arith in
     let below : at .i < 8 = omega arith in
-    (omega arith, n, length-set (at .told) (at .i) _ ∙ k, rw (c .place-of .ensures, ← more) (filled-more placeOf all (at .told) (at .i) unused (omega arith) (omega arith) (at .inv .3)))
+    (omega arith, n, length-set (at .told) (at .i) _ ∙ k, rw (c .place-of .ensures, ← more) (filled-more placeOf all (at .told) (at .i) _ (omega arith) (omega arith) (at .inv .3)))
 
 returns : tie.Need-returns Inv-loop μ-loop
 returns c =

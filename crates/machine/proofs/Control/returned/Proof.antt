@@ -7,11 +7,11 @@ use Rattle.machine.proofs.Control.returned.Tie as tie
 
 returns : tie.Need-returns
 unfolding returned
-returns c = λ vars. rw (c .release .ensures, c .before .rearmed .ensures, c .before .before .last-place .ensures)
+returns c = λ vars. rw (c .rearmed .ensures, c .before .last-place .ensures, c .before .before .release .ensures)
 
 pub returned-spec : {M : Type 1} → statement M
 returned-spec = tie.close (tie.spec
     (λ c κs. omega arith)
-    (λ c κs. tt)
     (λ c κs. omega arith)
+    (λ c κs. tt)
     returns)
