@@ -106,14 +106,15 @@ fn place_of(place: Place) -> StatePlace
     }
 }
 
-// All eight return places.
+// All eight return places. The first are told again, once for each that is kept: in a loop whose end is known when it runs, the compiler leaves a machine's places
+// in one piece.
 fn places_of(places: Places) -> [StatePlace; 8]
     ensures { λ r. ⌜ r ≡ map placeOf (places .all) ⌝ }
 {
     let all = places.all;
     let mut told = [no_place(); 8];
-    for i in 0..8 {
-        told[i] = place_of(all[i]);
+    for i in 0..8 + places.kept as usize {
+        told[i % 8] = place_of(all[i % 8]);
     }
     told
 }

@@ -1,13 +1,13 @@
 -- Laws of lists and of runs of numbers that several layers need.
 -- Assumes nothing.
 use mathlib.Core.Path.{_≡_, refl, sym, ap, subst, _∙_}
-use mathlib.Core.List.{List, [], _∷_, _++_, map, flatMap, append-assoc, map-append}
+use mathlib.Core.List.{List, [], _∷_, _++_, map, flatMap, append-assoc}
 use mathlib.Core.Logic.{⊎-elim}
 use Prim.Native.Nat.{ℕ, zero, suc, _+_, _≤_, _<_}
 use native.Mathlib.Nat.{eq-or-lt-of-le}
 use native.Mathlib.Omega.{arith}
 use lib.ListN.{length, getD, set, take, drop}
-use lib.Seq.{getD-set-same, set-getD, take-suc, take-suc-set, take-all}
+use lib.Seq.{getD-set-same, set-getD}
 
 -- What is made of each of two lists, one behind the other.
 pub flat-append : {A B : Type 0} (f : A → List B) (xs ys : List A) → flatMap f (xs ++ ys) ≡ flatMap f xs ++ flatMap f ys
@@ -53,17 +53,6 @@ module _ {A : Type 0} (f : A → A) where
   length-changed [] (suc n) = refl
   length-changed (x ∷ l) zero = refl
   length-changed (x ∷ l) (suc n) = ap suc (length-changed l n)
-
--- A list is filled, place by place, with what a function makes of another's elements.
-module _ {A B : Type 0} (f : A → B) (l : List A) (out : List B) where
-  pub filled-more : (i : ℕ) (d : A) → i < length l → i < length out → take i out ≡ map f (take i l) → take (suc i) (set out i (f (getD l i d))) ≡ map f (take (suc i) l)
-  filled-more i d h k e =
-      take-suc-set out i (f (getD l i d)) k
-      ∙ ap (λ (xs : List B). xs ++ (f (getD l i d) ∷ [])) e
-      ∙ sym (ap (map f) (take-suc l i d h) ∙ map-append f (take i l) (getD l i d ∷ []))
-
-  pub filled-all : (n : ℕ) → length l ≡ n → length out ≡ n → take n out ≡ map f (take n l) → out ≡ map f l
-  filled-all n h k e = sym (take-all n out (omega arith)) ∙ e ∙ ap (map f) (take-all n l (omega arith))
 
 -- What holds of n numbers from k on, one by one, holds of each.
 abbrev pub EachFrom : (ℕ → Type 0) → ℕ → ℕ → Type 0

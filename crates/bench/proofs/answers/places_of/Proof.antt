@@ -1,55 +1,86 @@
 -- `places_of` meets its contract: the first i places are those of specs/.
 -- Assumes nothing.
-use mathlib.Core.Path.{_≡_, refl, subst, _∙_}
-use mathlib.Core.List.{map}
-use Prim.Native.Nat.{ℕ, suc, _+_, _-_, _≤_, _<_}
+use mathlib.Core.Path.{_≡_, refl, sym, _∙_}
+use mathlib.Core.List.{List, map}
+use Prim.Native.Nat.{ℕ, suc, _+_, _-_, _%_, _≤_, _<_}
+use native.Mathlib.Nat.{mod-eq-of-lt, mod-lt}
 use native.Mathlib.Omega.{arith}
 use borrow.Author.Needs.{needs}
-use lib.ListN.{length, take, length-set}
+use lib.ListN.{length, getD, set, length-set, length-map, List·getD-map}
+use lib.Seq.{getD-set-same, getD-set-other, ext-getD}
 use Rattle.numbers.proofs.Kit.{length-held}
-use Rattle.numbers.proofs.Lists.{filled-more, filled-all}
+use Rattle.numbers.proofs.Truth.{if-same}
+use Rattle.machine.specs.declared.Place.{Place}
+use Rattle.bench.specs.declared.StatePlace.{StatePlace}
 use Rattle.bench.specs.Answers.{placeOf}
 use Rattle.bench.proofs.answers.places_of.Statement.{statement}
 use Rattle.bench.proofs.answers.places_of.Tie as tie
 
+-- What is read past the end.
+abbrev none : Place
+none = record { cell = 0; handler = 0 }
+
+-- Of eight places the first i are told.
+pub record Told (all : List Place) (i : ℕ) (told : List StatePlace) : Type 0 where
+  pub many : length all ≡ 8
+  pub size : length told ≡ 8
+  pub each : (j : ℕ) → j < i → j < 8 → getD told j (placeOf none) ≡ placeOf (getD all j none)
+
+told-next : (all : List Place) (i : ℕ) (told : List StatePlace) → Told all i told → Told all (i + 1) (set told (i % 8) (placeOf (getD all (i % 8) none)))
+told-next all i told t =
+    let m = mod-lt i {m = 8} (omega arith) in
+    let n = t .size in
+    record {
+      many = t .many;
+      size = length-set told (i % 8) _ ∙ t .size;
+      each =
+          λ j h k. if-same j (i % 8)
+          (λ e. rw (e, getD-set-same told (i % 8) (placeOf (getD all (i % 8) none)) (placeOf none) (omega arith)))
+          (λ o. getD-set-other told (i % 8) j (placeOf (getD all (i % 8) none)) (placeOf none) o
+          ∙ t .each j (if-same j i (λ e. let s : i < 8 = omega arith in absurd (o (e ∙ sym (mod-eq-of-lt s)))) (λ d. omega arith)) k);
+    }
+
+told-all : (all : List Place) (i : ℕ) (told : List StatePlace) → 8 ≤ i → Told all i told → told ≡ map placeOf all
+told-all all i told h t =
+    let n = t .size in
+    ext-getD (placeOf none) told (map placeOf all) (t .size ∙ sym (length-map all placeOf ∙ t .many))
+    (λ j k. t .each j (omega arith) (omega arith) ∙ sym (List·getD-map placeOf all j none))
+
 abbrev Inv-loop : tie.InvT-loop
-Inv-loop all told₀ i₀ told i = (i ≤ 8) × (length all ≡ 8) × (length told ≡ 8) × (take i told ≡ map placeOf (take i all))
+Inv-loop all told₀ i₀ i-end told i = (i ≤ i-end) × (8 ≤ i-end) × Told all i told
 
 abbrev μ-loop : tie.MeasureT-loop
-μ-loop all told₀ i₀ told i = 8 - i
+μ-loop all told₀ i₀ i-end told i = i-end - i
 
 loop-holds : tie.Need-loop-holds Inv-loop μ-loop
-loop-holds c = let n : length (c .before .before .args .places .all) ≡ 8 = search (needs, length-held) in (omega arith, n, refl, refl)
+loop-holds c =
+    let n : length (c .before .before .before .args .places .all) ≡ 8 = search (needs, length-held) in
+    (omega arith, omega arith, record { many = n; size = refl; each = λ j h. absurd (omega arith) })
 
 loop-again : tie.Need-loop-again Inv-loop μ-loop
 loop-again c =
     let at = c .before .before .before .loop in
-    let all = c .before .before .before .before .before .before .args .places .all in
-    let n = at .inv .1 in
-    let k = at .inv .2 in
-    let more : suc (at .i) ≡ at .i + 1 = omega arith in
-    let below : at .i < 8 = omega arith in
-    (omega arith, n, length-set (at .told) (at .i) _ ∙ k, rw (c .place-of .ensures, ← more) (filled-more placeOf all (at .told) (at .i) _ (omega arith) (omega arith) (at .inv .3)))
+    (omega arith, at .inv .1, rw (c .place-of .ensures) (told-next _ (at .i) (at .told) (at .inv .2)))
 
 returns : tie.Need-returns Inv-loop μ-loop
 returns c =
     let at = c .before .loop in
-    let e : at .i ≡ 8 = omega arith in
-    let all = c .before .before .before .before .args .places .all in
-    filled-all placeOf all (at .told) 8 (at .inv .1) (at .inv .2) (subst (λ (i : ℕ). take i (at .told) ≡ map placeOf (take i all)) e (at .inv .3))
+    told-all _ (at .i) (at .told) (omega arith) (at .inv .2)
 
 pub places-of-spec : {M : Type 1} → statement M
 places-of-spec =
     tie.close
     (tie.spec Inv-loop μ-loop
     (λ c κs. tt)
+    (λ c. omega arith)
+    (λ c. search needs)
     loop-holds
-    (λ c. omega arith)
-    (λ c. omega arith)
+    (λ c. search needs)
+    (λ c. search needs)
     (λ c κs. tt)
-    (λ c. omega arith)
-    (λ c. omega arith)
-    (λ c. omega arith)
+    (λ c. search needs)
+    (λ c. search needs)
+    (λ c. search needs)
     (λ c. omega arith)
     loop-again
     returns)
