@@ -14,4 +14,5 @@ pub mod Promised
 pub mod States
 pub mod OverOrUnder
 pub mod ReadingER
+pub mod Rearming
 pub mod Later

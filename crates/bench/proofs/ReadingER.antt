@@ -52,7 +52,7 @@ use Rattle.bench.specs.Sheet.{start, variable, next, fresh, readingImage
 use Rattle.bench.specs.Requests.{AtCell, AtLine, writtenER, Request2}
 use Rattle.bench.proofs.Demands.{one-trace, demand1, demand2, demand3}
 use Rattle.bench.proofs.Decided.{run-decided}
-use Rattle.bench.proofs.States.{holdsAt, start-ruled, acts}
+use Rattle.bench.proofs.States.{holdsAt, start-ruled, acts, good-line}
 
 -- A test beside whether a number is 0, and the two of them as facts.
 zero-and : (n : ℕ) (t : Bool) {P : Type 0} → (T t → P) → (P → T t) → ((eqb n 0 && t) ≡ true) ↔ ((n ≡ 0) × P)
@@ -122,26 +122,11 @@ values-named xs [] = refl
 values-named xs (x ∷ vs) = rw (value-named xs x, values-named xs vs)
 
 module _ (text : List ℕ) (m : Machine) (h : AtLine text m) where
-  line-good : Good (howMany makesCell (said text)) (howMany makesVariable (said text)) (placeOf (said text)) (numberOf (said text)) (lineAt (said text) (m .next))
-  unfolding writable Writes
-  line-good =
-      let xs = said text in
-      let a = lineAt xs (m .next) in
-      let f = line-acceptable xs (fine text (h .fine)) (m .next) (h .here) in
-      record {
-        named = all-each (λ n. leb (placeOf xs n) (howMany makesCell xs)) (targets a)
-            (each-then (Names (placeOf xs) (numberOf xs) (imageOf xs) (howMany makesVariable xs)) (λ n. T (leb (placeOf xs n) (howMany makesCell xs)))
-            (λ n t. le→leb (placeOf xs n) (howMany makesCell xs) (place-most xs n)) (targets a) (f .aims));
-        written = all-each (λ v. writable (howMany makesVariable xs) (numberOf xs v)) (writes a)
-            (each-then (Writes (placeOf xs) (numberOf xs) (imageOf xs) (howMany makesVariable xs)) (λ v. T (writable (howMany makesVariable xs) (numberOf xs v)))
-            (λ v w. true-is (present (howMany makesVariable xs) (numberOf xs v) && not (readOnly (numberOf xs v))) w) (writes a) (f .sets));
-      }
-
   line-turn : Flags (lineActs (said text) m) (m .variables) (turn (howMany makesCell (said text)) (lineActs (said text) m) m .machine .variables)
   unfolding lineActs
   line-turn =
       flags (howMany makesCell (said text)) (howMany makesVariable (said text)) (λ k. isHold (lineAt (said text) k)) (placeOf (said text)) (numberOf (said text))
-      (lineAt (said text) (m .next)) m line-good (h .ruled) (h .here) refl
+      (lineAt (said text) (m .next)) m (good-line text m h) (h .ruled) (h .here) refl
 
   line-reading : (lineActs (said text) m .reads ≡ true) ↔ ((m .hold ≡ 0) × T (anyOf writtenER (operands (lineAt (said text) (m .next)))))
   unfolding lineActs readsER

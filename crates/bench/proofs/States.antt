@@ -2,7 +2,7 @@
 -- No answer has a slew at velocity 0 (Turn 5, Turn 20).
 -- Assumes nothing.
 use mathlib.Core.Path.{_≡_, refl, sym, ap, _∙_}
-use mathlib.Core.Bool.{Bool, false, not}
+use mathlib.Core.Bool.{Bool, false, _&&_, not}
 use mathlib.Core.List.{List}
 use Prim.Native.Nat.{ℕ, _*_, _≤_, _<_}
 use native.Mathlib.Omega.{arith}
@@ -11,13 +11,20 @@ use lib.Dec.{T, eqb, leb, ltb, le→leb}
 use lib.IntN.{pos}
 use lib.ListN.{length, getD}
 use Rattle.numbers.specs.Tests.{anyOf, anyBelow, listed}
-use Rattle.numbers.proofs.Truth.{is-true, both-of, neither, chosen}
+use Rattle.numbers.proofs.Truth.{is-true, true-is, both-of, neither, chosen}
 use Rattle.numbers.proofs.Tests.{each-then, all-each, length-listed, listed-at, any-exactly}
 use Rattle.program.specs.Variables.{present, readOnly}
 use Rattle.program.specs.Statements.{writes, targets, isHold}
 use Rattle.program.specs.Cells.{same, statementOf}
+use Rattle.text.specs.Faults.{said, howMany, makesCell, makesVariable, placeOf, numberOf}
 use Rattle.image.specs.Layout.{cellCount, labelCount, variableCount, cellAt, labelTarget, startValue, startValues}
 use Rattle.image.specs.Check.{layouts, fits, badLength, imageFaults, checked}
+use Rattle.image.proofs.Accepted.{Names, Writes}
+use Rattle.translation.specs.Images.{imageOf}
+use Rattle.translation.specs.Places.{lineAt}
+use Rattle.agreement.proofs.Sound.{fine}
+use Rattle.agreement.proofs.Records.{place-most}
+use Rattle.agreement.proofs.Cells.{line-acceptable}
 use Rattle.machine.specs.declared.Machine.{Machine}
 use Rattle.machine.specs.declared.Motion.{Motion}
 use Rattle.machine.specs.declared.Motion.the-variants.{Still, To, Slewing}
@@ -37,6 +44,7 @@ use Rattle.listing.proofs.Recorded.{Recorded, recorded}
 use Rattle.listing.proofs.Resolved.{Written, Aimed, stands}
 use Rattle.bench.specs.Answers.{motionNumber, motionValue, stateOf, noState, ranAs, refusedAs}
 use Rattle.bench.specs.Running.{runFaults, runRefusal, ran}
+use Rattle.bench.specs.Requests.{AtLine}
 use Rattle.bench.specs.Following.{linesCourse, textCourse, followed}
 use Rattle.bench.specs.declared.State.{State}
 use Rattle.bench.specs.declared.Ran.{Ran}
@@ -61,6 +69,23 @@ module _ (s : List ℕ) (r : Recorded s) (k : ℕ) where
         named = all-each (λ n. leb n (cellCount s)) (targets a) (each-then (Aimed s) (λ n. T (leb n (cellCount s))) aimed (targets a) (h .aims));
         written = all-each (writable (variableCount s)) (writes a)
             (each-then (Written s) (λ v. T (writable (variableCount s) v)) (λ v w. both-of (present (variableCount s) v) (not (readOnly v)) (w .0) (w .1)) (writes a) (h .sets));
+      }
+
+-- Each line of an accepted text is one too.
+module _ (text : List ℕ) (m : Machine) (h : AtLine text m) where
+  pub good-line : Good (howMany makesCell (said text)) (howMany makesVariable (said text)) (placeOf (said text)) (numberOf (said text)) (lineAt (said text) (m .next))
+  unfolding writable Writes
+  good-line =
+      let xs = said text in
+      let a = lineAt xs (m .next) in
+      let f = line-acceptable xs (fine text (h .fine)) (m .next) (h .here) in
+      record {
+        named = all-each (λ n. leb (placeOf xs n) (howMany makesCell xs)) (targets a)
+            (each-then (Names (placeOf xs) (numberOf xs) (imageOf xs) (howMany makesVariable xs)) (λ n. T (leb (placeOf xs n) (howMany makesCell xs)))
+            (λ n t. le→leb (placeOf xs n) (howMany makesCell xs) (place-most xs n)) (targets a) (f .aims));
+        written = all-each (λ v. writable (howMany makesVariable xs) (numberOf xs v)) (writes a)
+            (each-then (Writes (placeOf xs) (numberOf xs) (imageOf xs) (howMany makesVariable xs)) (λ v. T (writable (howMany makesVariable xs) (numberOf xs v)))
+            (λ v w. true-is (present (howMany makesVariable xs) (numberOf xs v) && not (readOnly (numberOf xs v))) w) (writes a) (f .sets));
       }
 
 -- Turn 5: cell k is an `H x`.
@@ -101,14 +126,21 @@ module _ (s : List ℕ) (good : checked s ≡ 0) where
   unfolding badLength
   image-size = ltb-false 5008 (length s) (neither (ltb (length s) 16) (ltb 5008 (length s)) (faultless s good .size) .1)
 
--- The same over the answer of a run: where its number is 0, its state is that of a machine that has the rules.
-pub answer-ruled : (s script : List ℕ) (budget : ℕ) (buffer : List ℕ) → ran s script budget (length buffer) .number ≡ 0
-    → (m : Machine) × Ruled (cellCount s) (variableCount s) (holdsAt s) m × (ran s script budget (length buffer) .state ≡ stateOf m)
+-- The answer of a run: where its number is 0, image and script are accepted, and its state is that of the machine with which the run ended.
+pub answer-state : (s script : List ℕ) (budget : ℕ) (buffer : List ℕ) → ran s script budget (length buffer) .number ≡ 0
+    → (checked s ≡ 0) × (badEvents script ≡ false) × (ran s script budget (length buffer) .state ≡ stateOf (imageCourse s script budget .machine))
 unfolding ran ranAs checked runFaults
-answer-ruled s script budget buffer e =
+answer-state s script budget buffer e =
     let c = run-refused s script budget buffer .none .0 e in
     let n = sym (ran-number s script budget buffer) ∙ e in
-    (imageCourse s script budget .machine, final-state-ruled s (lowest-zero 20 (imageFaults s) .1 (c .0)) script budget (c .1 1), rw n refl)
+    (lowest-zero 20 (imageFaults s) .1 (c .0), c .1 1, rw n refl)
+
+-- So it is that of a machine that has the rules.
+pub answer-ruled : (s script : List ℕ) (budget : ℕ) (buffer : List ℕ) → ran s script budget (length buffer) .number ≡ 0
+    → (m : Machine) × Ruled (cellCount s) (variableCount s) (holdsAt s) m × (ran s script budget (length buffer) .state ≡ stateOf m)
+answer-ruled s script budget buffer e =
+    let a = answer-state s script budget buffer e in
+    (imageCourse s script budget .machine, final-state-ruled s (a .0) script budget (a .1), a .2)
 
 -- Turn 6, Events 6: at most as many turns as the budget, and as many records as turns, refused or not.
 pub answer-bounded : (s script : List ℕ) (budget room : ℕ) → (ran s script budget room .turns ≤ budget) × (ran s script budget room .records ≤ ran s script budget room .turns)

@@ -31,12 +31,16 @@ use Rattle.machine.specs.Happens.{happens}
 use Rattle.running.specs.Courses.{cellActs, imageTrace}
 use Rattle.rules.specs.Rules.{Ruled}
 use Rattle.rules.specs.Flags.{Flags, FlagsIn}
+use Rattle.rules.specs.Handlers.{TurnHandlers, HandlersIn}
 use Rattle.printing.specs.Listing.{listing, plain}
 use Rattle.bench.specs.Translating.{answered}
 use Rattle.bench.specs.Listings.{listAnswered, listedAs, listedInto}
 use Rattle.bench.specs.Following.{lineActs, textTrace}
 use Rattle.bench.specs.Demands.{Bytes, Translate, Check, Run, Demand1, Demand2, Demand3, given}
+use Rattle.bench.specs.Answers.{noPlace}
 use Rattle.bench.specs.declared.Listed.{Listed}
+use Rattle.bench.specs.declared.StatePlace.{StatePlace}
+use Rattle.bench.specs.declared.State.{State}
 
 -- What listing gives: the answer, and the text buffer as the call leaves it. It is given an image and a buffer.
 pub record Listing : Type 0 where
@@ -145,6 +149,37 @@ pub record Request6 (translate : Translate) (check : Check) (run : Run) : Type 0
   -- Turn 5, Q-6 2: in no answer, refused or not, is ER (10) anything but 0, 101 to 106, or 109.
   pub error-number : (s script : List ℕ) (budget : ℕ) (buffer : List ℕ)
       → let er = read (run s script budget buffer .answer .state .variables) 10 in T (eqZ er (pos 0) || (between (pos 101) (pos 106) er || eqZ er (pos 109)))
+
+-- Q-7 2: a return place of an answer, by its number.
+abbrev pub toldPlace : State → ℕ → StatePlace
+toldPlace s k = getD (s .places) k noPlace
+
+-- Q-7 5 and the rules for the places, of an answer from a program with so many cells: cells and targets are at most that; a mark is 0, and the target with it,
+-- or 1; a place that is not kept is all 0. At most one mark is 1, and then no handler is armed.
+pub record Marks (cells : ℕ) (s : State) : Type 0 where
+  pub cell : (k : ℕ) → toldPlace s k .cell ≤ cells
+  pub target : (k : ℕ) → toldPlace s k .target ≤ cells
+  pub mark : (k : ℕ) → ((toldPlace s k .mark ≡ 0) × (toldPlace s k .target ≡ 0)) ⊎ (toldPlace s k .mark ≡ 1)
+  pub unused : (k : ℕ) → s .kept ≤ k → toldPlace s k ≡ noPlace
+  pub one : (j k : ℕ) → toldPlace s j .mark ≡ 1 → toldPlace s k .mark ≡ 1 → j ≡ k
+  pub unarmed : (k : ℕ) → toldPlace s k .mark ≡ 1 → s .handler ≡ 65535
+
+-- Q-7, over a translator, a checker and a runner. The request changes what a turn does and what an answer tells, and no call: so it asks for the demands, whose
+-- runs are made up of the turns of cells and of lines, and says what these do to the handler and to the places that its calls kept.
+pub record Request7 (translate : Translate) (check : Check) (run : Run) : Type 0 where
+  pub demand-1 : Demand1 translate check run
+  pub demand-2 : Demand2 translate check run
+  pub demand-3 : Demand3 translate run
+  -- Q-7 2, Q-7 3: a turn of a cell, and of a line, in any state that keeps the rules, one with several places of a handler too.
+  pub cell-handlers : (s : List ℕ) (m : Machine) → AtCell s m → TurnHandlers (cellCount s) (cellActs s m) m
+  pub line-handlers : (text : List ℕ) (m : Machine) → AtLine text m → TurnHandlers (howMany makesCell (said text)) (lineActs (said text) m) m
+  -- Events 2: an event changes neither the places nor the handler.
+  pub event-handlers : (e : Event) (m : Machine) → (happens e m .places ≡ m .places) × (happens e m .handler ≡ m .handler)
+  -- Turn 7: so in each turn of a run from the start, of an accepted image and of an accepted text, and there at most one place is a handler's, and then none is armed.
+  pub image-run : (s script : List ℕ) (budget : ℕ) → checked s ≡ 0 → badEvents script ≡ false → Each HandlersIn (imageTrace s script budget .steps)
+  pub text-run : (text script : List ℕ) (budget : ℕ) → accepted text ≡ true → badEvents script ≡ false → Each HandlersIn (textTrace text script budget .steps)
+  -- Q-7 4, Q-7 5: so in the state of every answer, refused or not.
+  pub marks : (s script : List ℕ) (budget : ℕ) (buffer : List ℕ) → Marks (cellCount s) (run s script budget buffer .answer .state)
 
 -- No row in front of row k of the faults holds for line l of a text, and none at all for a line before it.
 abbrev pub NoneBefore : List ℕ → ℕ → ℕ → Type 0

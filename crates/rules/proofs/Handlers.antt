@@ -14,10 +14,11 @@ use lib.Seq.{getD-set-same, getD-set-other}
 use denote.Enum.Declared.{tagOf}
 use Rattle.numbers.specs.Tests.{Each, allOf}
 use Rattle.numbers.proofs.Truth.{chosen, if-same, if-below}
+use Rattle.program.specs.Statements.{Statement, isHold}
 use Rattle.effects.specs.declared.Effect.{Effect}
 use Rattle.effects.specs.declared.Effect.the-variants.{Fails, Stores, Passes, Goes, Calls, Returns, Ends, Stays, Holds, Arms, Disarms, Moves, Slews, Prints}
 use Rattle.effects.proofs.Effect.{the-type}
-use Rattle.effects.specs.Deeds.{Deed}
+use Rattle.effects.specs.Deeds.{Deed, deed}
 use Rattle.events.specs.declared.Event.{Event}
 use Rattle.events.specs.Events.{goodEvent}
 use Rattle.machine.specs.declared.Machine.{Machine}
@@ -30,9 +31,9 @@ use Rattle.machine.specs.Run.{plain, reach, traceFrom, courseOf, runFrom}
 use Rattle.machine.proofs.Quiet.{SameWay, happens-way, happens-next}
 use Rattle.machine.proofs.Traces.{step, reach-keeps, next-reached, all-events, each-step, run-keeps}
 use Rattle.rules.specs.Rules.{placeAt, Ruled}
-use Rattle.rules.specs.Good.{Acts}
+use Rattle.rules.specs.Good.{Good, Acts}
 use Rattle.rules.specs.Flags.{Erring}
-use Rattle.rules.specs.Handlers.{Marked, Chooses, Takes, CallsHandler, Handlers, OneHandler, HandlersIn}
+use Rattle.rules.specs.Handlers.{Marked, Chooses, Takes, CallsHandler, Handlers, TurnHandlers, OneHandler, HandlersIn}
 use Rattle.rules.proofs.Parts.{Kept, way-of, call-at}
 use Rattle.rules.proofs.Events.{ruled-event}
 use Rattle.rules.proofs.Start.{everywhere}
@@ -255,19 +256,22 @@ start-one values =
 since : {e : Effect} {n n′ : ℕ} {p p′ : Places} {h h′ : ℕ} {q : Places} {i : ℕ} → n′ ≡ n → p′ ≡ p → h′ ≡ h → Handlers e n′ p′ h′ q i → Handlers e n p h q i
 since a b c x = rw (← a, ← b, ← c) x
 
+-- Q-7 2, Q-7 3: a turn of a good statement in a state that keeps the rules.
+pub handlers : {R : Type 0} (cells variables : ℕ) (holds : ℕ → Bool) (place number : R → ℕ) (s : Statement R) (m : Machine)
+    → Good cells variables place number s → Ruled cells variables holds m → holds (m .next) ≡ isHold s
+    → TurnHandlers cells (deed place number (m .variables) (m .places .kept) (m .hold) s) m
+unfolding turn
+handlers cells variables holds place number s m good r e =
+    let kept = way-of r .back in
+    from-ways kept (by-effect cells variables holds m kept _ (sound-effect cells variables holds m place number s good r e))
+
 -- Q-7 2, Q-7 3: a turn of what acts, and each turn of a run, its events and its statement together.
 module _ {R : Type 0} (cells variables : ℕ) (holds : ℕ → Bool) (place number : R → ℕ) (act : Machine → Deed)
     (acts : (m : Machine) → Ruled cells variables holds m → m .next < cells → Acts cells variables holds place number act m) where
-  abbrev Turns : (m x : Machine) → Deed → Type 0
-  Turns m x d = Handlers (d .effect) (m .next) (m .places) (m .handler) (turn cells d x .machine .places) (turn cells d x .machine .handler)
-
-  pub handlers-act : (m : Machine) → Ruled cells variables holds m → m .next < cells → Turns m m (act m)
-  unfolding turn
+  pub handlers-act : (m : Machine) → Ruled cells variables holds m → m .next < cells → TurnHandlers cells (act m) m
   handlers-act m r here =
       let a = acts m r here in
-      let kept = way-of r .back in
-      subst (Turns m m) (sym (a .does))
-      (from-ways kept (by-effect cells variables holds m kept _ (sound-effect cells variables holds m place number (a .statement) (a .good) r (a .hold))))
+      subst (λ (d : Deed). TurnHandlers cells d m) (sym (a .does)) (handlers cells variables holds place number (a .statement) m (a .good) r (a .hold))
 
   -- What is kept in a run: the rules, and that at most one place is a handler's.
   abbrev pub Keeps : Machine → Type 0
@@ -284,7 +288,7 @@ module _ {R : Type 0} (cells variables : ℕ) (holds : ℕ → Bool) (place numb
       let there = reach t es m .machine in
       let w = reach-keeps happens (SameWay m) (λ e. true) (λ e x g h. let i = happens-way e x in (i .0 ∙ h .0, i .1 ∙ h .1, i .2 ∙ h .2)) t es m (all-events es) (refl, refl, refl) in
       let r = reach-keeps happens (Ruled cells variables holds) goodEvent ruled-event t es m f (k .0) in
-      let h : Turns m there (act there) = since (w .0) (w .1) (w .2) (handlers-act there r (rw (w .0) here)) in
+      let h = since (w .0) (w .1) (w .2) (handlers-act there r (rw (w .0) here)) in
       record { changes = h; before = k .1; after = one-after h (k .1) }
 
   pub handlers-run : (left t : ℕ) (es : List Event) (m : Machine) → T (allOf goodEvent es) → Keeps m → Each HandlersIn (traceFrom act cells left t es m .steps)

@@ -9,7 +9,7 @@ use Rattle.effects.specs.Deeds.{Deed}
 use Rattle.machine.specs.declared.Machine.{Machine}
 use Rattle.machine.specs.declared.Places.{Places}
 use Rattle.machine.specs.declared.Turned.{Turned}
-use Rattle.machine.specs.Turn.{noHandler, byHandler, asCall, unused}
+use Rattle.machine.specs.Turn.{noHandler, byHandler, asCall, unused, turn}
 use Rattle.machine.specs.Run.{Step}
 use Rattle.rules.specs.Rules.{placeAt}
 use Rattle.rules.specs.Flags.{Erring}
@@ -48,6 +48,10 @@ pub record Handlers (e : Effect) (next : ℕ) (places : Places) (handler : ℕ) 
   pub arms : (cell : ℕ) → e ≡ Arms cell → handler′ ≡ cell
   pub disarms : e ≡ Disarms → handler′ ≡ noHandler
   pub stays : (CallsHandler e places handler → ⊥) → (Chooses e → ⊥) → ((k : ℕ) → Takes e places k → Marked places k → ⊥) → handler′ ≡ handler
+
+-- The same of a turn of a machine, by what its statement does in a program with so many cells.
+abbrev pub TurnHandlers : ℕ → Deed → Machine → Type 0
+TurnHandlers cells d m = Handlers (d .effect) (m .next) (m .places) (m .handler) (turn cells d m .machine .places) (turn cells d m .machine .handler)
 
 -- At most one place is a handler's, and then no handler is armed.
 pub record OneHandler (places : Places) (handler : ℕ) : Type 0 where
