@@ -549,7 +549,7 @@ static struct wrote fail(struct state *m, u8 error, int *stops) {
     if (m->handler == NONE) m->next++;
     else if (8 <= m->kept) *stops = 1;
     else {
-        m->places[m->kept++] = m->next + 1;
+        m->places[m->kept++] = (struct place){ m->next + 1, m->handler, 1 };
         m->next = m->handler;
         m->handler = NONE;
     }
@@ -626,6 +626,7 @@ static struct wrote hold(struct state *m, u8 shape, i32 x, int *stops) {
 
 static struct wrote act(struct state *m, const u8 *c, u32 cells, int *stops) {
     struct wrote w = { 0 };
+    struct place place;
     u8 left = c[3] % 4;
     u32 n = read4(c + 4);
     i32 x = value(m->variables, left, n), y = value(m->variables, c[3] / 4, read4(c + 8));
@@ -638,17 +639,23 @@ static struct wrote act(struct state *m, const u8 *c, u32 cells, int *stops) {
     case CL:
         if (!holds(c[2], x, y)) { m->next++; return w; }
         if (8 <= m->kept) return fail(m, 104, stops);
-        m->places[m->kept++] = m->next + 1;
+        m->places[m->kept++] = (struct place){ m->next + 1, 0, 0 };
         m->next = read2(c + 12);
         return w;
     case RT:
         if (m->kept == 0) return fail(m, 105, stops);
-        m->next = m->places[--m->kept];
-        m->places[m->kept] = 0;
+        place = m->places[--m->kept];
+        m->places[m->kept] = (struct place){ 0 };
+        m->next = place.cell;
+        if (place.mark) m->handler = place.target;
         return w;
     case E: m->next = cells; return w;
     case H: return hold(m, left, x, stops);
-    case OE: m->handler = read2(c + 12); m->next++; return w;
+    case OE:
+        for (u8 k = 0; k < m->kept; k++) m->places[k].target = 0, m->places[k].mark = 0;
+        m->handler = read2(c + 12);
+        m->next++;
+        return w;
     case MA: return move(m, x, 2, x, stops);
     case MR: return move(m, (i64)m->variables[P] + x, 3, x, stops);
     case SL: return slew(m, x, stops);

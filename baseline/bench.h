@@ -10,9 +10,13 @@ struct translated { u8 number; u32 line, length; };
 
 struct listed { u8 number; u32 length; };
 
+/* A return place: the mark is 1 where the call of a handler kept it, with that handler's target. */
+struct place { u16 cell, target; u8 mark; };
+
 struct state {
     i32 variables[64];
-    u16 next, places[8];
+    u16 next;
+    struct place places[8];
     u8 kept;
     u16 handler;
     u32 hold;

@@ -92,7 +92,7 @@ static u64 signless(i32 z) { return (u64)((i64)z + 2147483648ll); }
 
 static u64 mixed_state(u64 sum, const struct state *s) {
     sum = mixed(mixed(sum, s->next), s->kept);
-    for (u32 i = 0; i < 8; i++) sum = mixed(sum, s->places[i]);
+    for (u32 i = 0; i < 8; i++) sum = mixed(mixed(mixed(sum, s->places[i].cell), s->places[i].target), s->places[i].mark);
     sum = mixed(mixed(mixed(mixed(sum, s->handler), s->hold), s->motion), signless(s->value));
     for (u32 i = 0; i < 64; i++) sum = mixed(sum, signless(s->variables[i]));
     return sum;

@@ -155,6 +155,8 @@ fn explained(mut line: Line, kind: u8, number: u32) -> Line {
     }
     line = line.spaces(4);
     line = part(line, words::AFTER_ERROR);
+    line = line.end().spaces(4);
+    line = part(line, words::HANDLER);
     line.end()
 }
 

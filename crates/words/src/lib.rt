@@ -76,6 +76,8 @@ pub const VERSION: u32 = 24;
 
 pub const AFTER_ERROR: u32 = 25;
 
+pub const HANDLER: u32 = 26;
+
 // The last command that the text on the tool's use tells of.
 pub const LAST_COMMAND: u32 = 8;
 
@@ -84,7 +86,7 @@ const MOST_SOUGHT: u32 = 16;
 
 // The table stands in five pieces, since a long one is dear to prove: lines for the tool, numbers of answers, hints, wrong uses, and the text
 // on the tool's use, which is no part of the lines. What is sought most often stands first.
-const TOOL_SIZE: usize = 2242;
+const TOOL_SIZE: usize = 2317;
 
 const ANSWER_SIZE: usize = 1604;
 
@@ -104,7 +106,7 @@ const FIRST_COMMAND: usize = HELP + 68;
 pub const SIZE: usize = HELP + HELP_SIZE;
 
 // The number of lines, and the bytes of the longest with its end.
-const LINE_COUNT: usize = 187;
+const LINE_COUNT: usize = 188;
 
 pub const LONGEST: usize = 76;
 
@@ -147,6 +149,7 @@ part 22:  turns:
 part 23:  lines are faulty, the first 10 are shown
 part 24: punnet 1.0, for images of edition 1
 part 25: ER is the number, EF is 1; reading ER clears EF, ER=0 clears both
+part 26: an armed handler is called; its RT arms it again unless an OE ran
 command 1: try
 command 2: translate
 command 3: check
