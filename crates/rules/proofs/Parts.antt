@@ -172,7 +172,7 @@ pub call-ruled : {cells cell : ℕ} → cell ≤ cells → RuledPlace cells (byC
 call-ruled t = record { cell = t; handler = λ n. absurd (n refl) }
 
 pub handler-ruled : {cells cell target : ℕ} → cell ≤ cells → target ≤ cells → RuledPlace cells (byHandler cell target)
-handler-ruled t u = record { cell = t; handler = λ n. u }
+handler-ruled t u = record { cell = t; handler = λ n. omega arith }
 
 -- One place more; the place kept last is free again; each place as one that CL kept.
 module _ {cells : ℕ} {places : Places} (b : Kept cells places) where

@@ -29,27 +29,27 @@ changed-next l d i n =
     ap (set (changedFirst asCall i l) j) same ∙ set-getD (changedFirst asCall i l) j d ∙ changed-all asCall l i (omega arith) ∙ sym (changed-all asCall l (suc i) (omega arith)))
 
 abbrev Inv-loop : tie.InvT-loop
-Inv-loop places all₀ i₀ i-end all i = (i ≤ i-end) × (length (places .all) ≡ 8) × (all ≡ changedFirst asCall i (places .all))
+Inv-loop places all₀ i₀ i-end all i = (all ≡ changedFirst asCall i (places .all)) × (length (places .all) ≡ 8) × (i ≤ i-end)
 
 abbrev μ-loop : tie.MeasureT-loop
 μ-loop places all₀ i₀ i-end all i = i-end - i
 
 loop-holds : tie.Need-loop-holds Inv-loop μ-loop
-loop-holds c = let n : length (c .before .before .args .places .all) ≡ 8 = search (needs, length-held) in (omega arith, n, refl)
+loop-holds c = let n : length (c .before .before .args .places .all) ≡ 8 = search (needs, length-held) in (refl, n, omega arith)
 
 loop-again : tie.Need-loop-again Inv-loop μ-loop
 loop-again c =
     let at = c .before .before .before .loop in
     let all = c .before .before .before .before .before .before .args .places .all in
     let more : suc (at .i) ≡ at .i + 1 = omega arith in
-    (omega arith, at .inv .1, rw (c .as-call .ensures, at .inv .2, ← more) (changed-next all _ (at .i) (at .inv .1)))
+    (rw (c .as-call .ensures, at .inv .0, ← more) (changed-next all _ (at .i) (at .inv .1)), at .inv .1, omega arith)
 
 returns : tie.Need-returns Inv-loop μ-loop
 unfolding callsOnly
 returns c =
     let at = c .before .loop in
     let e : at .i ≡ c .before .before .before .before .args .places .kept = omega arith in
-    rw (at .inv .2, e)
+    rw (at .inv .0, e)
 
 pub calls-only-spec : {M : Type 1} → statement M
 calls-only-spec =
