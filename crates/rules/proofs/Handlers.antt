@@ -169,10 +169,12 @@ module _ {c : ℕ} {places : Places} (kept : Kept c places) {e : Effect} {next h
       rw (p, h)
       (record {
         marked =
-            λ k. (λ t. if-same k (places .kept) (λ e. inl (y, e)) (λ n. inr (still-marked (sym (kept-there kept place k n)) t, q .no-choice, λ x. q .no-return (x .0))),
-            ⊎-elim
-            (λ c. subst (Marked (keep places place)) (sym (c .1)) (still-marked (kept-here kept place (y .2)) (y .1)))
-            (λ t. still-marked (kept-marked kept place k (t .0)) (t .0)));
+            λ k. (
+              λ t. if-same k (places .kept) (λ e. inl (y, e)) (λ n. inr (still-marked (sym (kept-there kept place k n)) t, q .no-choice, λ x. q .no-return (x .0))),
+              ⊎-elim
+                  (λ c. subst (Marked (keep places place)) (sym (c .1)) (still-marked (kept-here kept place (y .2)) (y .1)))
+                  (λ t. still-marked (kept-marked kept place k (t .0)) (t .0)),
+            );
         new = λ c. kept-here kept place (y .2);
         same = λ k t a b. kept-marked kept place k t;
         unmarked = λ o. absurd (q .no-choice o);
@@ -190,10 +192,12 @@ module _ {c : ℕ} {places : Places} (kept : Kept c places) {e : Effect} {next h
       rw (p, h)
       (record {
         marked =
-            λ k. (λ t. if-same k last
-            (λ e. absurd (subst (Marked (release places)) e t (ap (λ (p : Place). p .handler) (freed-here kept))))
-            (λ n. inr (still-marked (sym (freed-there kept k n)) t, no-choice, λ x. let l = x .1 in n (omega arith))),
-            ⊎-elim (λ c. absurd (no-error (c .0 .0))) (λ t. still-marked (freed-there kept k (not-last kept k r (t .0) (t .2))) (t .0)));
+            λ k. (
+              λ t. if-same k last
+                  (λ e. absurd (subst (Marked (release places)) e t (ap (λ (p : Place). p .handler) (freed-here kept))))
+                  (λ n. inr (still-marked (sym (freed-there kept k n)) t, no-choice, λ x. let l = x .1 in n (omega arith))),
+              ⊎-elim (λ c. absurd (no-error (c .0 .0))) (λ t. still-marked (freed-there kept k (not-last kept k r (t .0) (t .2))) (t .0)),
+            );
         new = λ c. absurd (no-error (c .0));
         same = λ k t a b. freed-there kept k (not-last kept k r t b);
         unmarked = λ o. absurd (no-choice o);
