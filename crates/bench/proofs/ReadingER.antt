@@ -7,25 +7,23 @@ use mathlib.Core.Logic.{_↔_, _⊎_, inl, inr, ⊎-elim}
 use Prim.Native.Nat.{ℕ, _+_}
 use native.Mathlib.Omega.{arith}
 use borrow.Author.Tests.{eq-eqb, ne-eqb}
-use lib.Dec.{T, eqb, eqb→eq, eqb-refl, leb, le→leb}
+use lib.Dec.{T, eqb, eqb→eq, eqb-refl}
 use lib.IntN.{ℤ, pos, natAbs}
 use Rattle.numbers.specs.Bytes.{ascii}
 use Rattle.numbers.specs.Tests.{anyOf, allOf, eqList, numbered, Each}
 use Rattle.numbers.proofs.Truth.{is-true, true-is, both, both-of, either, left-of, right-of, if-same, same-test}
-use Rattle.numbers.proofs.Tests.{each-then, all-each, eqList-eq, numbered-all}
+use Rattle.numbers.proofs.Tests.{eqList-eq, numbered-all}
 use Rattle.program.specs.declared.Operand.{Operand}
 use Rattle.program.specs.declared.Operand.the-variants as O
 use Rattle.program.specs.Names.{Name, variableNames, paperVariable}
-use Rattle.program.specs.Variables.{present, readOnly}
-use Rattle.program.specs.Statements.{Value, Literal, Variable, operands, writes, targets, isHold}
+use Rattle.program.specs.Statements.{Value, Literal, Variable, operands, isHold}
 use Rattle.program.specs.Cells.{same, valueOf, statementOf}
 use Rattle.text.specs.Forms.{Line}
 use Rattle.text.specs.Faults.{said, howMany, makesCell, makesVariable, rankOf, placeOf, numberOf}
 use Rattle.image.specs.Layout.{cellCount, variableCount, cellAt, startValues}
 use Rattle.image.specs.Check.{checked}
-use Rattle.image.proofs.Accepted.{Names, Writes}
 use Rattle.translation.specs.Images as Images
-use Rattle.translation.specs.Images.{imageOf, image}
+use Rattle.translation.specs.Images.{image}
 use Rattle.translation.specs.Places.{lineAt}
 use Rattle.effects.specs.Effects.{read}
 use Rattle.effects.specs.Deeds.{isER, readsER}
@@ -35,15 +33,11 @@ use Rattle.machine.specs.Turn.{startMachine, turn}
 use Rattle.machine.specs.Run.{PlainTrace}
 use Rattle.events.specs.Events.{badEvents, events}
 use Rattle.running.specs.Courses.{cellActs, imageTrace}
-use Rattle.rules.specs.Good.{writable, Good}
 use Rattle.rules.specs.Flags.{Flags, FlagsIn}
 use Rattle.rules.proofs.Events.{all-good}
 use Rattle.rules.proofs.Flags.{flags, flags-event, flags-act, flags-run}
 use Rattle.listing.proofs.Accepted.{accepted}
 use Rattle.listing.proofs.Resolved.{stands}
-use Rattle.agreement.proofs.Sound.{fine}
-use Rattle.agreement.proofs.Records.{place-most}
-use Rattle.agreement.proofs.Cells.{line-acceptable}
 use Rattle.agreement.proofs.Checked.{image-checked}
 use Rattle.bench.specs.declared.Ran.{Ran}
 use Rattle.bench.specs.Following.{lineActs, textTrace}

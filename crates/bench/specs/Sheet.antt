@@ -54,73 +54,39 @@ twoArrivals = 3 ∷ 0 ∷ 0 ∷ 0 ∷ 2 ∷ 0 ∷ 0 ∷ 0 ∷ 0 ∷ 0 ∷ 0 ∷ 
 abbrev pub padded : List ℕ → List ℕ
 padded xs = xs ++ replicate (16 - length xs) 0
 
--- The state at the start of a program without variables of its own, and a state with some variables and the next cell changed.
-abbrev pub start : State
-start =
+-- A state by what differs in the sheet: in all of them the axis is still, and no hold runs.
+abbrev pub still : List ℤ → ℕ → List StatePlace → ℕ → ℕ → State
+still variables next places kept handler =
     record {
-      variables =
-          pos 0 ∷ pos 0 ∷ pos 0 ∷ pos 0 ∷ pos 0 ∷ pos 0 ∷ pos 1000000 ∷ pos 1000000 ∷ pos 1000 ∷ pos 768000 ∷ replicate 54 (pos 0);
-      next = 0;
-      places = replicate 8 noPlace;
-      kept = 0;
-      handler = 65535;
+      variables = variables;
+      next = next;
+      places = places;
+      kept = kept;
+      handler = handler;
       hold = 0;
       motion = 0;
       value = pos 0;
     }
 
+-- The state at the start of a program without variables of its own.
+abbrev pub start : State
+start =
+    still
+    (pos 0 ∷ pos 0 ∷ pos 0 ∷ pos 0 ∷ pos 0 ∷ pos 0 ∷ pos 1000000 ∷ pos 1000000 ∷ pos 1000 ∷ pos 768000 ∷ replicate 54 (pos 0))
+    0 (replicate 8 noPlace) 0 65535
+
+-- Such a state with a variable or the next cell changed; with a handler armed; with the first return place kept.
 abbrev pub variable : ℕ → ℤ → State → State
-variable v z s =
-    record {
-      variables = set (s .variables) v z;
-      next = s .next;
-      places = s .places;
-      kept = s .kept;
-      handler = s .handler;
-      hold = s .hold;
-      motion = s .motion;
-      value = s .value;
-    }
+variable v z s = still (set (s .variables) v z) (s .next) (s .places) (s .kept) (s .handler)
 
 abbrev pub next : ℕ → State → State
-next n s =
-    record {
-      variables = s .variables;
-      next = n;
-      places = s .places;
-      kept = s .kept;
-      handler = s .handler;
-      hold = s .hold;
-      motion = s .motion;
-      value = s .value;
-    }
+next n s = still (s .variables) n (s .places) (s .kept) (s .handler)
 
--- With another handler, and with the first return place kept and no handler.
-abbrev pub handler : ℕ → State → State
-handler cell s =
-    record {
-      variables = s .variables;
-      next = s .next;
-      places = s .places;
-      kept = s .kept;
-      handler = cell;
-      hold = s .hold;
-      motion = s .motion;
-      value = s .value;
-    }
+abbrev pub armedAt : ℕ → State → State
+armedAt cell s = still (s .variables) (s .next) (s .places) (s .kept) cell
 
 abbrev pub keeping : StatePlace → State → State
-keeping place s =
-    record {
-      variables = s .variables;
-      next = s .next;
-      places = set (s .places) 0 place;
-      kept = 1;
-      handler = 65535;
-      hold = s .hold;
-      motion = s .motion;
-      value = s .value;
-    }
+keeping place s = still (s .variables) (s .next) (set (s .places) 0 place) 1 (s .handler)
 
 -- One run of a row: what it is given, and what it must give.
 pub record Trial : Type 0 where
@@ -227,7 +193,7 @@ abbrev pub inHandler : State
 inHandler = keeping (record { cell = 2; target = 4; mark = 1 }) (variable 1 (pos 1) (erred 105 5))
 
 abbrev pub armedAgain : State
-armedAgain = handler 4 (variable 1 (pos 2) (erred 105 6))
+armedAgain = armedAt 4 (variable 1 (pos 2) (erred 105 6))
 
 -- A handler at cell 3 that has an `OE 0`, so that its return arms nothing.
 abbrev pub ownChoice : List ℕ

@@ -47,30 +47,23 @@ fn separator(before: u8, start: usize, i: usize) -> u8 {
     if i == start { before } else { b',' }
 }
 
-// The cells of the return places, and their marks: 0, or 1 and the target of the handler whose call kept the place.
-fn places(mut line: Line, values: [StatePlace; 8]) -> Line {
+// The cells of the return places; or their marks: 0, or 1 and the target of the handler whose call kept the place.
+fn places(mut line: Line, values: [StatePlace; 8], marks: bool) -> Line {
     for i in 0..8 {
-        line = cell(line, separator(b' ', 0, i), values[i]);
+        line = line.byte(separator(b' ', 0, i))
+            .number(place(values[i], marks));
     }
     line
 }
 
-fn cell(line: Line, before: u8, place: StatePlace) -> Line {
-    line.byte(before).number(place.cell as u64)
-}
-
-fn marks(mut line: Line, values: [StatePlace; 8]) -> Line {
-    for i in 0..8 {
-        line = mark(line, separator(b' ', 0, i), values[i]);
+fn place(place: StatePlace, marks: bool) -> u64 {
+    if !marks {
+        return place.cell as u64;
     }
-    line
-}
-
-fn mark(line: Line, before: u8, place: StatePlace) -> Line {
     if place.mark == 0 {
-        return line.byte(before).number(0);
+        return 0;
     }
-    line.byte(before).number(1 + place.target as u64)
+    1 + place.target as u64
 }
 
 // The variables from number `start` to before `end`.
@@ -98,8 +91,8 @@ fn state(mut line: Line, state: State) -> Line {
     let values = state.variables;
     line = number(line, state.next as u64);
     line = number(line, state.kept as u64);
-    line = places(line, kept);
-    line = marks(line, kept);
+    line = places(line, kept, false);
+    line = places(line, kept, true);
     line = motion(line, state.handler, state.hold, state.motion, state.value);
     line = variables(line, b' ', values, FIXED_START, FIXED_END);
     variables(line, b',', values, USER_START, USER_END)

@@ -3,17 +3,16 @@
 use mathlib.Core.Path.{_≡_, refl, sym, ap, _∙_, subst}
 use mathlib.Core.Bool.{Bool, true, false}
 use mathlib.Core.List.{List}
-use mathlib.Core.Logic.{_↔_, _⊎_, inl, inr, ⊎-elim}
+use mathlib.Core.Logic.{inl, inr, ⊎-elim}
 use Prim.Native.Nat.{ℕ, suc, _+_, _-_, _≤_, _<_}
 use native.Mathlib.Omega.{arith}
 use borrow.Author.Tests.{eq-eqb, ne-eqb, eqb-true, eqb-false, ltb-true, ltb-false}
 use lib.Dec.{T, eqb, ltb}
 use lib.IntN.{ℤ}
-use lib.ListN.{length, getD, set}
 use lib.Seq.{getD-set-same, getD-set-other}
 use denote.Enum.Declared.{tagOf}
 use Rattle.numbers.specs.Tests.{Each, allOf}
-use Rattle.numbers.proofs.Truth.{chosen, if-same, if-below}
+use Rattle.numbers.proofs.Truth.{if-same, if-below}
 use Rattle.program.specs.Statements.{Statement, isHold}
 use Rattle.effects.specs.declared.Effect.{Effect}
 use Rattle.effects.specs.declared.Effect.the-variants.{Fails, Stores, Passes, Goes, Calls, Returns, Ends, Stays, Holds, Arms, Disarms, Moves, Slews, Prints}
@@ -24,12 +23,11 @@ use Rattle.events.specs.Events.{goodEvent}
 use Rattle.machine.specs.declared.Machine.{Machine}
 use Rattle.machine.specs.declared.Place.{Place}
 use Rattle.machine.specs.declared.Places.{Places}
-use Rattle.machine.specs.declared.Turned.{Turned}
 use Rattle.machine.specs.Turn.{noHandler, byCall, byHandler, unused, startMachine, keep, release, lastPlace, callsOnly, inMotion, called, handled, rearmed, returned, armed, held, flagged, failed, applied, turn}
 use Rattle.machine.specs.Happens.{happens}
 use Rattle.machine.specs.Run.{plain, reach, traceFrom, courseOf, runFrom}
 use Rattle.machine.proofs.Quiet.{SameWay, happens-way, happens-next}
-use Rattle.machine.proofs.Traces.{step, reach-keeps, next-reached, all-events, each-step, run-keeps}
+use Rattle.machine.proofs.Traces.{step, reach-keeps, all-events, each-step, run-keeps}
 use Rattle.rules.specs.Rules.{placeAt, Ruled}
 use Rattle.rules.specs.Good.{Good, Acts}
 use Rattle.rules.specs.Flags.{Erring}
