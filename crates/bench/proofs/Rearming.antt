@@ -24,26 +24,26 @@ use Rattle.effects.specs.Effects.{read}
 use Rattle.machine.specs.declared.Machine.{Machine}
 use Rattle.machine.specs.declared.Place.{Place}
 use Rattle.machine.specs.Turn.{noHandler, unused, startMachine}
-use Rattle.machine.specs.Run.{PlainTrace}
+use Rattle.machine.specs.Run.{PlainTrace, Course}
 use Rattle.machine.proofs.Quiet.{happens-way}
 use Rattle.events.specs.Events.{badEvents, events}
 use Rattle.running.specs.Courses.{cellActs, imageTrace, imageCourse}
 use Rattle.rules.specs.Rules.{placeAt, Ruled}
-use Rattle.rules.specs.Handlers.{TurnHandlers, OneHandler, HandlersIn}
+use Rattle.rules.specs.Handlers.{TurnHandlers, OneHandler, HandlersIn, Origins}
 use Rattle.rules.proofs.Events.{all-good}
 use Rattle.rules.proofs.Start.{everywhere}
-use Rattle.rules.proofs.Handlers.{Keeps, handlers, handlers-act, handlers-run, start-one, one-run}
+use Rattle.rules.proofs.Handlers.{Keeps, handlers, handlers-act, handlers-run, start-one, one-run, origins}
 use Rattle.agreement.proofs.Checked.{image-checked}
 use Rattle.bench.specs.declared.StatePlace.{StatePlace}
 use Rattle.bench.specs.declared.State.{State}
 use Rattle.bench.specs.declared.Ran.{Ran}
 use Rattle.bench.specs.Answers.{placeOf, noPlace, stateOf, noState, refusedAs}
 use Rattle.bench.specs.Running.{ran}
-use Rattle.bench.specs.Following.{lineActs, textTrace}
+use Rattle.bench.specs.Following.{lineActs, textTrace, textCourse}
 use Rattle.bench.specs.Demands.{Translate, Check, Outcome, Run, Demand1, Demand2, Demand3, ourTranslate, ourCheck, ourRun}
 use Rattle.bench.specs.Sheet.{fresh, againImage, inHandler, armedAgain, ownChoiceImage, erred, sheet-holds}
 use Rattle.bench.specs.Requests.{AtCell, AtLine, toldPlace, Marks, Request7}
-use Rattle.bench.proofs.Demands.{one-trace, run-refused, demand1, demand2, demand3}
+use Rattle.bench.proofs.Demands.{one-trace, one-course, run-refused, demand1, demand2, demand3}
 use Rattle.bench.proofs.Decided.{run-decided}
 use Rattle.bench.proofs.States.{holdsAt, start-ruled, acts, good-line, answer-state}
 
@@ -131,6 +131,17 @@ module _ (s : List ℕ) (good : checked s ≡ 0) where
   kept-last script budget fine =
       one-run (cellCount s) (variableCount s) (holdsAt s) same same (cellActs s) (acts s good) budget 0 (events script) (startMachine (startValues s)) (all-good script fine) kept-first
 
+  image-origin : (script : List ℕ) (budget : ℕ) → badEvents script ≡ false → Origins (imageCourse s script budget .machine .places) (imageTrace s script budget .steps)
+  unfolding imageCourse imageTrace
+  image-origin script budget fine =
+      origins (cellCount s) (variableCount s) (holdsAt s) same same (cellActs s) (acts s good) budget 0 (events script) (startValues s) (all-good script fine) (start-ruled s good)
+
+text-origin : (text script : List ℕ) (budget : ℕ) → accepted text ≡ true → badEvents script ≡ false → Origins (textCourse text script budget .machine .places) (textTrace text script budget .steps)
+text-origin text script budget ok fine =
+    subst (λ (c : Course). Origins (c .machine .places) (textTrace text script budget .steps)) (one-course text script budget ok)
+    (subst (λ (trace : PlainTrace). Origins (imageCourse (image text) script budget .machine .places) (trace .steps)) (one-trace text script budget ok)
+    (image-origin (image text) (image-checked text ok) script budget fine))
+
 text-handlers : (text script : List ℕ) (budget : ℕ) → accepted text ≡ true → badEvents script ≡ false → Each HandlersIn (textTrace text script budget .steps)
 text-handlers text script budget ok fine =
     subst (λ (trace : PlainTrace). Each HandlersIn (trace .steps)) (one-trace text script budget ok) (image-handlers (image text) (image-checked text ok) script budget fine)
@@ -166,6 +177,8 @@ request7 translate check run one two three =
       event-handlers = λ e m. let w = happens-way e m in (w .1, w .2);
       image-run = λ s script budget good fine. image-handlers s good script budget fine;
       text-run = text-handlers;
+      image-origins = λ s script budget good fine. image-origin s good script budget fine;
+      text-origins = text-origin;
       marks = λ s script budget buffer.
           subst (λ (o : Outcome). Marks (cellCount s) (o .answer .state)) (sym (run-decided translate check run one two s script budget buffer)) (answer-marks s script budget buffer);
     }

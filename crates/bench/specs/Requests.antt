@@ -28,14 +28,14 @@ use Rattle.events.specs.Events.{goodEvent, badEvents}
 use Rattle.machine.specs.declared.Machine.{Machine}
 use Rattle.machine.specs.Turn.{turn}
 use Rattle.machine.specs.Happens.{happens}
-use Rattle.running.specs.Courses.{cellActs, imageTrace}
+use Rattle.running.specs.Courses.{cellActs, imageTrace, imageCourse}
 use Rattle.rules.specs.Rules.{Ruled}
 use Rattle.rules.specs.Flags.{Flags, FlagsIn}
-use Rattle.rules.specs.Handlers.{TurnHandlers, HandlersIn}
+use Rattle.rules.specs.Handlers.{TurnHandlers, HandlersIn, Origins}
 use Rattle.printing.specs.Listing.{listing, plain}
 use Rattle.bench.specs.Translating.{answered}
 use Rattle.bench.specs.Listings.{listAnswered, listedAs, listedInto}
-use Rattle.bench.specs.Following.{lineActs, textTrace}
+use Rattle.bench.specs.Following.{lineActs, textTrace, textCourse}
 use Rattle.bench.specs.Demands.{Bytes, Translate, Check, Run, Demand1, Demand2, Demand3, given}
 use Rattle.bench.specs.Answers.{noPlace}
 use Rattle.bench.specs.declared.Listed.{Listed}
@@ -178,6 +178,11 @@ pub record Request7 (translate : Translate) (check : Check) (run : Run) : Type 0
   -- Turn 7: so in each turn of a run from the start, of an accepted image and of an accepted text, and there at most one place is a handler's, and then none is armed.
   pub image-run : (s script : List ℕ) (budget : ℕ) → checked s ≡ 0 → badEvents script ≡ false → Each HandlersIn (imageTrace s script budget .steps)
   pub text-run : (text script : List ℕ) (budget : ℕ) → accepted text ≡ true → badEvents script ≡ false → Each HandlersIn (textTrace text script budget .steps)
+  -- Q-7 2: each place that is a handler's at the end of a run was kept by one of its turns, an error that called the handler, and has for its target that handler.
+  pub image-origins : (s script : List ℕ) (budget : ℕ) → checked s ≡ 0 → badEvents script ≡ false
+      → Origins (imageCourse s script budget .machine .places) (imageTrace s script budget .steps)
+  pub text-origins : (text script : List ℕ) (budget : ℕ) → accepted text ≡ true → badEvents script ≡ false
+      → Origins (textCourse text script budget .machine .places) (textTrace text script budget .steps)
   -- Q-7 4, Q-7 5: so in the state of every answer, refused or not.
   pub marks : (s script : List ℕ) (budget : ℕ) (buffer : List ℕ) → Marks (cellCount s) (run s script budget buffer .answer .state)
 

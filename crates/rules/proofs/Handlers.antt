@@ -3,7 +3,7 @@
 use mathlib.Core.Path.{_≡_, refl, sym, ap, _∙_, subst}
 use mathlib.Core.Bool.{Bool, true, false}
 use mathlib.Core.List.{List}
-use mathlib.Core.Logic.{inl, inr, ⊎-elim}
+use mathlib.Core.Logic.{_⊎_, inl, inr, ⊎-elim}
 use Prim.Native.Nat.{ℕ, suc, _+_, _-_, _≤_, _<_}
 use native.Mathlib.Omega.{arith}
 use borrow.Author.Tests.{eq-eqb, ne-eqb, eqb-true, eqb-false, ltb-true, ltb-false}
@@ -23,15 +23,16 @@ use Rattle.events.specs.Events.{goodEvent}
 use Rattle.machine.specs.declared.Machine.{Machine}
 use Rattle.machine.specs.declared.Place.{Place}
 use Rattle.machine.specs.declared.Places.{Places}
+use Rattle.machine.specs.declared.Turned.{Turned}
 use Rattle.machine.specs.Turn.{noHandler, byCall, byHandler, unused, startMachine, keep, release, lastPlace, callsOnly, inMotion, called, handled, rearmed, returned, armed, held, flagged, failed, applied, turn}
 use Rattle.machine.specs.Happens.{happens}
-use Rattle.machine.specs.Run.{plain, reach, traceFrom, courseOf, runFrom}
+use Rattle.machine.specs.Run.{Step, PlainTrace, plain, reach, finally, traceFrom, courseOf, runFrom}
 use Rattle.machine.proofs.Quiet.{SameWay, happens-way, happens-next}
-use Rattle.machine.proofs.Traces.{step, reach-keeps, all-events, each-step, run-keeps}
+use Rattle.machine.proofs.Traces.{step, each-run, reach-keeps, left-fine, next-reached, all-events, each-step, run-keeps}
 use Rattle.rules.specs.Rules.{placeAt, Ruled}
 use Rattle.rules.specs.Good.{Good, Acts}
 use Rattle.rules.specs.Flags.{Erring}
-use Rattle.rules.specs.Handlers.{Marked, Chooses, Takes, CallsHandler, Handlers, TurnHandlers, OneHandler, HandlersIn}
+use Rattle.rules.specs.Handlers.{Marked, Chooses, Takes, CallsHandler, Handlers, TurnHandlers, OneHandler, HandlersIn, KeptBy, Some, Origins}
 use Rattle.rules.proofs.Parts.{Kept, way-of, call-at}
 use Rattle.rules.proofs.Events.{ruled-event}
 use Rattle.rules.proofs.Start.{everywhere}
@@ -267,6 +268,15 @@ handlers cells variables holds place number s m good r e =
     let kept = way-of r .back in
     from-ways kept (by-effect cells variables holds m kept _ (sound-effect cells variables holds m place number s good r e))
 
+-- Q-7 2: a place that is a handler's behind a turn was so before it, and is the same, or was kept in it.
+from-turn : (s : Step Machine Deed Turned) → HandlersIn s → (k : ℕ) → Marked (s .came .machine .places) k
+    → (Marked (s .before .places) k × (placeAt (s .came .machine .places) k ≡ placeAt (s .before .places) k)) ⊎ KeptBy k (placeAt (s .came .machine .places) k) s
+from-turn s h k t =
+    ⊎-elim
+    (λ c. inr (record { calls = c .0; last = c .1; as-was = ap (placeAt (s .came .machine .places)) (c .1) ∙ h .changes .new (c .0) }))
+    (λ x. inl (x .0, h .changes .same k (x .0) (x .1) (x .2)))
+    (h .changes .marked k .0 t)
+
 -- Q-7 2, Q-7 3: a turn of what acts, and each turn of a run, its events and its statement together.
 module _ {R : Type 0} (cells variables : ℕ) (holds : ℕ → Bool) (place number : R → ℕ) (act : Machine → Deed)
     (acts : (m : Machine) → Ruled cells variables holds m → m .next < cells → Acts cells variables holds place number act m) where
@@ -300,3 +310,38 @@ module _ {R : Type 0} (cells variables : ℕ) (holds : ℕ → Bool) (place numb
   pub one-run : (left t : ℕ) (es : List Event) (m : Machine) → T (allOf goodEvent es) → Keeps m → Keeps (runFrom act cells left t es m .machine)
   unfolding courseOf
   one-run = run-keeps plain happens-next act cells Keeps goodEvent event-keeps turn-keeps
+
+  -- So it is of a run: what is a handler's at its end was so at its start, and is the same, or was kept by one of its turns.
+  abbrev Since : Machine → PlainTrace → Type 0
+  Since m trace =
+      (k : ℕ) → Marked (finally plain m (trace .steps) .places) k
+      → (Marked (m .places) k × (placeAt (finally plain m (trace .steps) .places) k ≡ placeAt (m .places) k)) ⊎ Some (KeptBy k (placeAt (finally plain m (trace .steps) .places) k)) (trace .steps)
+
+  since-run : (left t : ℕ) (es : List Event) (m : Machine) → T (allOf goodEvent es) → Keeps m → Since m (traceFrom act cells left t es m)
+  unfolding finally
+  since-run =
+      each-run plain act cells (λ left t es m trace. T (allOf goodEvent es) → Keeps m → Since m trace)
+      (λ left t es m h f k i y. inl (y, refl))
+      (λ t es m h f k i y. inl (y, refl))
+      (λ left t es m h e f k i y. ⊎-elim inl (λ o. inr (inl o)) (from-turn (step plain act cells t es m) (handlers-step t es m h f k) i y))
+      (λ left t es m h e more p f k i y.
+      let s = step plain act cells t es m in
+      let there = reach t es m in
+      let c = turn-keeps (there .machine) (reach-keeps happens Keeps goodEvent event-keeps t es m f k) (rw (next-reached plain happens-next t es m) h) in
+      ⊎-elim
+      (λ x. ⊎-elim
+      (λ w. inl (w .0, x .1 ∙ w .1))
+      (λ o. inr (inl (record { calls = o .calls; last = o .last; as-was = x .1 ∙ o .as-was })))
+      (from-turn s (handlers-step t es m h f k) i (x .0)))
+      (λ o. inr (inr o))
+      (p (left-fine happens goodEvent t es m f) c i y))
+
+  -- Q-7 2: in a run from the start each place that is a handler's at the end was kept by a turn of that run.
+  pub origins : (left t : ℕ) (es : List Event) (values : List ℤ) → T (allOf goodEvent es) → Ruled cells variables holds (startMachine values)
+      → Origins (runFrom act cells left t es (startMachine values) .machine .places) (traceFrom act cells left t es (startMachine values) .steps)
+  unfolding courseOf startMachine
+  origins left t es values f r k y =
+      ⊎-elim
+      (λ x. absurd (x .0 (ap (λ (p : Place). p .handler) (everywhere 8 k unused))))
+      (λ o. o)
+      (since-run left t es (startMachine values) f (r, start-one values) k y)

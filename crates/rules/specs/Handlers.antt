@@ -1,12 +1,14 @@
 -- Document 02, "A handler that arms itself again": what a turn does to the handler, and to the return places that calls of a handler kept.
 -- Assumes nothing.
 use mathlib.Core.Path.{_≡_}
+use mathlib.Core.List.{List, [], _∷_}
 use mathlib.Core.Logic.{_↔_, _⊎_}
 use Prim.Native.Nat.{ℕ, suc, _+_, _<_}
 use Rattle.effects.specs.declared.Effect.{Effect}
 use Rattle.effects.specs.declared.Effect.the-variants.{Returns, Arms, Disarms}
 use Rattle.effects.specs.Deeds.{Deed}
 use Rattle.machine.specs.declared.Machine.{Machine}
+use Rattle.machine.specs.declared.Place.{Place}
 use Rattle.machine.specs.declared.Places.{Places}
 use Rattle.machine.specs.declared.Turned.{Turned}
 use Rattle.machine.specs.Turn.{noHandler, byHandler, asCall, unused, turn}
@@ -63,3 +65,18 @@ pub record HandlersIn (s : Step Machine Deed Turned) : Type 0 where
   pub changes : Handlers (s .does .effect) (s .before .next) (s .before .places) (s .before .handler) (s .came .machine .places) (s .came .machine .handler)
   pub before : OneHandler (s .before .places) (s .before .handler)
   pub after : OneHandler (s .came .machine .places) (s .came .machine .handler)
+
+-- Q-7 2: this turn kept place k for the call of the handler: with the following cell, and the handler as it was.
+pub record KeptBy (k : ℕ) (place : Place) (s : Step Machine Deed Turned) : Type 0 where
+  pub calls : CallsHandler (s .does .effect) (s .before .places) (s .before .handler)
+  pub last : k ≡ s .before .places .kept
+  pub as-was : place ≡ byHandler (s .before .next + 1) (s .before .handler)
+
+-- It holds of one of these.
+abbrev pub Some : {A : Type 0} → (A → Type 0) → List A → Type 0
+Some P [] = ⊥
+Some P (x ∷ xs) = P x ⊎ Some P xs
+
+-- Each handler's place among these was kept by one of the turns.
+abbrev pub Origins : Places → List (Step Machine Deed Turned) → Type 0
+Origins places steps = (k : ℕ) → Marked places k → Some (KeptBy k (placeAt places k)) steps
