@@ -1,7 +1,7 @@
 // What a run answered, as a line of words and numbers. A part is left out where it is as usual: a number that is 0, a place that is 0, a
 // handler that is none, a variable with the value that it has at the start; where the run is refused, all that is 0. So two runs that differ
-// have different lines. A return place stands as `p0=3`, with `m0=1 t0=4` behind it where the call of the handler at cell 4 kept it, a variable as `ER=104`, a user variable by its number as `32=7`, and a record as
-// `[turn kind number value]`.
+// have different lines. A return place stands as `p0=3`, and with `m0=1 t0=4` behind it where the call of the handler at cell 4 kept it. A
+// variable stands as `ER=104`, a user variable by its number as `32=7`, and a record as `[turn kind number value]`.
 use crate::words;
 use bench::Ran;
 use bench::State;
