@@ -4,7 +4,7 @@
 use mathlib.Core.Path.{_≡_, refl, sym, ap, _∙_, subst}
 use mathlib.Core.Bool.{Bool, true, false}
 use mathlib.Core.List.{List, []}
-use mathlib.Core.Logic.{_⊎_, inl, inr}
+use mathlib.Core.Logic.{inl, inr}
 use Prim.Native.Nat.{ℕ, _≤_}
 use native.Mathlib.Omega.{arith}
 use borrow.Author.Tests.{eq-eqb, ne-eqb}
@@ -14,8 +14,7 @@ use Rattle.numbers.specs.Tests.{Each}
 use Rattle.numbers.proofs.Truth.{if-same}
 use Rattle.program.specs.Statements.{isHold}
 use Rattle.program.specs.Cells.{same}
-use Rattle.text.specs.Faults as F
-use Rattle.text.specs.Faults.{said, howMany, makesCell, makesVariable, numberOf}
+use Rattle.text.specs.Faults.{said, howMany, makesCell, makesVariable, placeOf, numberOf}
 use Rattle.image.specs.Layout.{cellCount, variableCount, startValues}
 use Rattle.image.specs.Check.{checked}
 use Rattle.translation.specs.Images.{accepted, image}
@@ -37,45 +36,41 @@ use Rattle.agreement.proofs.Checked.{image-checked}
 use Rattle.bench.specs.declared.StatePlace.{StatePlace}
 use Rattle.bench.specs.declared.State.{State}
 use Rattle.bench.specs.declared.Ran.{Ran}
-use Rattle.bench.specs.Answers.{placeOf, noPlace, stateOf, noState, refusedAs}
+use Rattle.bench.specs.Answers.{statePlaceOf, noPlace, stateOf, noState, refusedAs}
 use Rattle.bench.specs.Running.{ran}
 use Rattle.bench.specs.Following.{lineActs, textTrace, textCourse}
 use Rattle.bench.specs.Demands.{Translate, Check, Outcome, Run, Demand1, Demand2, Demand3, ourTranslate, ourCheck, ourRun}
 use Rattle.bench.specs.Sheet.{fresh, againImage, inHandler, armedAgain, ownChoiceImage, erred, sheet-holds}
-use Rattle.bench.specs.Requests.{AtCell, AtLine, toldPlace, Marks, Request7}
+use Rattle.bench.specs.Requests.{AtCell, AtLine, toldPlace, GoodMark, Marks, Request7}
 use Rattle.bench.proofs.Demands.{one-trace, one-course, run-refused, demand1, demand2, demand3}
 use Rattle.bench.proofs.Decided.{run-decided}
 use Rattle.bench.proofs.States.{holdsAt, start-ruled, acts, good-line, answer-state}
 
 -- A place in an answer, by whether it has a handler.
 module _ (place : Place) where
-  told-call : place .handler ≡ noHandler → placeOf place ≡ record { cell = place .cell; target = 0; mark = 0 }
-  unfolding placeOf
+  told-call : place .handler ≡ noHandler → statePlaceOf place ≡ record { cell = place .cell; target = 0; mark = 0 }
+  unfolding statePlaceOf
   told-call e = rw (eq-eqb (place .handler) noHandler e)
 
-  told-handler : (place .handler ≡ noHandler → ⊥) → placeOf place ≡ record { cell = place .cell; target = place .handler; mark = 1 }
-  unfolding placeOf
+  told-handler : (place .handler ≡ noHandler → ⊥) → statePlaceOf place ≡ record { cell = place .cell; target = place .handler; mark = 1 }
+  unfolding statePlaceOf
   told-handler n = rw (ne-eqb (place .handler) noHandler n)
 
   -- What holds of both holds of it.
   told-by : (P : StatePlace → Type 0) → (place .handler ≡ noHandler → P (record { cell = place .cell; target = 0; mark = 0 }))
-      → ((place .handler ≡ noHandler → ⊥) → P (record { cell = place .cell; target = place .handler; mark = 1 })) → P (placeOf place)
+      → ((place .handler ≡ noHandler → ⊥) → P (record { cell = place .cell; target = place .handler; mark = 1 })) → P (statePlaceOf place)
   told-by P f g = if-same (place .handler) noHandler (λ e. subst P (sym (told-call e)) (f e)) (λ n. subst P (sym (told-handler n)) (g n))
 
-  marked-so : placeOf place .mark ≡ 1 → place .handler ≡ noHandler → ⊥
+  marked-so : statePlaceOf place .mark ≡ 1 → place .handler ≡ noHandler → ⊥
   marked-so t e = let n : _≡_ {A = ℕ} 0 1 = sym (ap (λ (p : StatePlace). p .mark) (told-call e)) ∙ t in omega arith
-
--- A mark is 0, and the target with it, or 1.
-abbrev Marked : StatePlace → Type 0
-Marked p = ((p .mark ≡ 0) × (p .target ≡ 0)) ⊎ (p .mark ≡ 1)
 
 -- The places of a machine's state.
 module _ {cells variables : ℕ} {holds : ℕ → Bool} (m : Machine) (r : Ruled cells variables holds m) (o : OneHandler (m .places) (m .handler)) where
-  told-at : (k : ℕ) → toldPlace (stateOf m) k ≡ placeOf (placeAt (m .places) k)
-  unfolding stateOf placeOf noHandler
-  told-at k = List·getD-map placeOf (m .places .all) k unused
+  told-at : (k : ℕ) → toldPlace (stateOf m) k ≡ statePlaceOf (placeAt (m .places) k)
+  unfolding stateOf statePlaceOf noHandler
+  told-at k = List·getD-map statePlaceOf (m .places .all) k unused
 
-  of-place : (P : StatePlace → Type 0) (k : ℕ) → P (placeOf (placeAt (m .places) k)) → P (toldPlace (stateOf m) k)
+  of-place : (P : StatePlace → Type 0) (k : ℕ) → P (statePlaceOf (placeAt (m .places) k)) → P (toldPlace (stateOf m) k)
   of-place P k = subst P (sym (told-at k))
 
   marked-at : (k : ℕ) → toldPlace (stateOf m) k .mark ≡ 1 → placeAt (m .places) k .handler ≡ noHandler → ⊥
@@ -85,16 +80,16 @@ module _ {cells variables : ℕ} {holds : ℕ → Bool} (m : Machine) (r : Ruled
   unfolding stateOf noHandler
   no-handler e = e
 
-  not-kept : (k : ℕ) → stateOf m .kept ≤ k → placeOf (placeAt (m .places) k) ≡ noPlace
+  not-kept : (k : ℕ) → stateOf m .kept ≤ k → statePlaceOf (placeAt (m .places) k) ≡ noPlace
   unfolding stateOf
-  not-kept k h = ap placeOf (r .unused-places k h) ∙ told-call unused refl
+  not-kept k h = ap statePlaceOf (r .unused-places k h) ∙ told-call unused refl
 
   marks-of : Marks cells (stateOf m)
   marks-of =
       record {
         cell = λ k. of-place (λ p. p .cell ≤ cells) k (told-by (placeAt (m .places) k) (λ p. p .cell ≤ cells) (λ e. r .places k .cell) (λ n. r .places k .cell));
         target = λ k. of-place (λ p. p .target ≤ cells) k (told-by (placeAt (m .places) k) (λ p. p .target ≤ cells) (λ e. omega arith) (λ n. r .places k .handler n));
-        mark = λ k. of-place Marked k (told-by (placeAt (m .places) k) Marked (λ e. inl (refl, refl)) (λ n. inr refl));
+        mark = λ k. of-place GoodMark k (told-by (placeAt (m .places) k) GoodMark (λ e. inl (refl, refl)) (λ n. inr refl));
         unused = λ k h. told-at k ∙ not-kept k h;
         one = λ j k s t. o .one j k (marked-at j s) (marked-at k t);
         unarmed = λ k t. no-handler (o .unarmed k (marked-at k t));
@@ -163,7 +158,7 @@ cell-turn s m h = handlers-act (cellCount s) (variableCount s) (holdsAt s) same 
 line-turn : (text : List ℕ) (m : Machine) → AtLine text m → TurnHandlers (howMany makesCell (said text)) (lineActs (said text) m) m
 unfolding lineActs
 line-turn text m h =
-    handlers (howMany makesCell (said text)) (howMany makesVariable (said text)) (λ k. isHold (lineAt (said text) k)) (F.placeOf (said text)) (numberOf (said text))
+    handlers (howMany makesCell (said text)) (howMany makesVariable (said text)) (λ k. isHold (lineAt (said text) k)) (placeOf (said text)) (numberOf (said text))
     (lineAt (said text) (m .next)) m (good-line text m h) (h .ruled) refl
 
 pub request7 : (translate : Translate) (check : Check) (run : Run) → Demand1 translate check run → Demand2 translate check run → Demand3 translate run → Request7 translate check run

@@ -30,8 +30,8 @@ motionValue (Slewing z) = z
 
 -- Q-7 2, Q-7 4, Q-7 5: a return place in an answer: mark and target are 0 where CL kept it or it is unused; where the call of a handler kept it, the mark is 1 and
 -- the target the handler's.
-unfoldable pub placeOf : Place → StatePlace
-placeOf place =
+unfoldable pub statePlaceOf : Place → StatePlace
+statePlaceOf place =
     cond (eqb (place .handler) noHandler)
     (record { cell = place .cell; target = 0; mark = 0 })
     (record { cell = place .cell; target = place .handler; mark = 1 })
@@ -42,7 +42,7 @@ stateOf m =
     record {
       variables = m .variables;
       next = m .next;
-      places = map placeOf (m .places .all);
+      places = map statePlaceOf (m .places .all);
       kept = m .places .kept;
       handler = m .handler;
       hold = m .hold;

@@ -154,12 +154,16 @@ pub record Request6 (translate : Translate) (check : Check) (run : Run) : Type 0
 abbrev pub toldPlace : State → ℕ → StatePlace
 toldPlace s k = getD (s .places) k noPlace
 
+-- Q-7 2, Q-7 5: a mark is 0, and the target with it, or 1.
+abbrev pub GoodMark : StatePlace → Type 0
+GoodMark place = ((place .mark ≡ 0) × (place .target ≡ 0)) ⊎ (place .mark ≡ 1)
+
 -- Q-7 5 and the rules for the places, of an answer from a program with so many cells: cells and targets are at most that; a mark is 0, and the target with it,
 -- or 1; a place that is not kept is all 0. At most one mark is 1, and then no handler is armed.
 pub record Marks (cells : ℕ) (s : State) : Type 0 where
   pub cell : (k : ℕ) → toldPlace s k .cell ≤ cells
   pub target : (k : ℕ) → toldPlace s k .target ≤ cells
-  pub mark : (k : ℕ) → ((toldPlace s k .mark ≡ 0) × (toldPlace s k .target ≡ 0)) ⊎ (toldPlace s k .mark ≡ 1)
+  pub mark : (k : ℕ) → GoodMark (toldPlace s k)
   pub unused : (k : ℕ) → s .kept ≤ k → toldPlace s k ≡ noPlace
   pub one : (j k : ℕ) → toldPlace s j .mark ≡ 1 → toldPlace s k .mark ≡ 1 → j ≡ k
   pub unarmed : (k : ℕ) → toldPlace s k .mark ≡ 1 → s .handler ≡ 65535

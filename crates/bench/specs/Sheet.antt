@@ -265,5 +265,5 @@ Holds r =
     × Each (RunsAs r) (r .trials)
 
 pub sheet-holds : Each Holds sheet
-unfolding Bits.digits32 Bits.signed32 Bits.eachDigit Bits.on32 Bits.and32 Bits.or32 Bits.xor32 Bytes.bytes Bytes.number Bytes.field Bytes.ascii Tests.eqZ Tests.eqList Tests.allOf Tests.anyOf Tests.allBelow Tests.anyBelow Tests.firstBelow Tests.listed Tests.numbered Tests.lowest List.flatMap Cells.noTarget Cells.operatorNumber Cells.comparisonNumber Cells.operatorOf Cells.comparisonOf Cells.operandOf Cells.jumpOf Cells.cellOf Cells.valueOf Cells.conditionOf Cells.holdOf Cells.statementBy Cells.statementOf Names.letter Names.digit Names.wordCharacter Names.mnemonics Names.variableNames Names.paperVariable Names.paperWord Names.twoCharacters Names.userName DriveWords.driveWords Names.reserved Names.freeName Statements.compared Statements.operands Statements.writes Statements.targets Variables.rangeOf Variables.startVariables Variables.allInputs Variables.mostCells Variables.mostLabels Variables.mostVariables Faults.overlong Faults.longLine Faults.badForm Faults.tooBig Faults.bigValue Faults.bigIn Faults.bigLiteral Faults.declares Faults.reservedName Faults.heard Faults.makesCell Faults.makesLabel Faults.makesVariable Faults.howMany Faults.declaresIt Faults.repeated Faults.tooMany Faults.firstMakes Faults.unknownVariable Faults.unknownValue Faults.unknownIn Faults.undeclared Faults.readOnlyWritten Faults.faults Faults.faultsFrom Faults.said Faults.textFaults Faults.firstFrom Faults.firstFault Faults.placeOf Faults.rankOf Faults.numberOf Forms.operatorSign Forms.comparisonSign Forms.meant Forms.operatorMeant Forms.comparisonMeant Forms.digits Forms.decimal Forms.literal Forms.variableName Forms.variable Forms.operand Forms.put Forms.word Forms.sign Forms.takes Forms.fill Forms.forms Forms.byForm Forms.statement Forms.reading Lines.ontoFirstLine Lines.lines Tokens.printable Tokens.uncommented Tokens.joins Tokens.ontoFirstToken Tokens.tokens Check.badLength Check.badEdition Check.badTrailer Check.layouts Check.goodWritten Check.goodSelector Check.goodOperand Check.goodTarget Check.fits Check.badCell Check.badCells Check.recordPlace Check.recordName Check.badName Check.badTarget Check.badStart Check.badRecords Check.imageFaults Check.checked Layout.shape Layout.operandNumber Layout.cellBytes Layout.labelBytes Layout.variableBytes Layout.imageLength Layout.trailerBytes Layout.trailerPlace Layout.firstLabelPlace Layout.cellCount Layout.labelCount Layout.variableCount Layout.edition Layout.wholeLength Layout.operandAt Layout.cellAt Layout.labelPlace Layout.labelTarget Layout.variablePlace Layout.startValue Layout.startValues Layout.nameAt Errors.resultError Effects.read Effects.storing Effects.storingResult Effects.operate Effects.zeroDivisor Effects.storingWith Effects.compares Effects.calling Effects.returning Effects.waiting Effects.holding Effects.moving Effects.slewing Effects.value Effects.holds Effects.printing Effects.branching Effects.callingIf Effects.effect Deeds.inError Deeds.clears Deeds.isER Deeds.readsER Events.eventAt Events.eventCount Events.events Happens.input Happens.arrivedBy Happens.happens Events.goodEvent Events.badScript Events.badEvent Events.badEvents Events.firstBadEvent Events.recordBytes Run.reachBy Run.traceOn Run.finally Run.courseOf Turn.noHandler Turn.startMachine Turn.stored Turn.storeRecord Turn.keep Turn.release Turn.lastPlace Turn.callsOnly Turn.movingBit Turn.inMotion Turn.slew Turn.called Turn.handled Turn.rearmed Turn.returned Turn.armed Turn.held Turn.flagged Turn.failed Turn.applied Turn.clearing Turn.turn Places.lineAt Places.starts Following.lineActs Following.linesCourse Following.textCourse Following.followed Following.followedInto Running.checkedAs Courses.cellActs Courses.imageCourse Answers.motionNumber Answers.motionValue Answers.placeOf Answers.stateOf Answers.noState Answers.ranAs Answers.refusedAs Running.bigBudget Running.smallRoom Running.runFaults Running.runRefusal Running.refusalIndex Running.ran Run.over Running.ranInto Images.cellPart Images.labelPart Images.variablePart Images.imageOf Images.image Images.accepted Translating.tooShort Translating.translated Translating.translatedInto
+unfolding Bits.digits32 Bits.signed32 Bits.eachDigit Bits.on32 Bits.and32 Bits.or32 Bits.xor32 Bytes.bytes Bytes.number Bytes.field Bytes.ascii Tests.eqZ Tests.eqList Tests.allOf Tests.anyOf Tests.allBelow Tests.anyBelow Tests.firstBelow Tests.listed Tests.numbered Tests.lowest List.flatMap Cells.noTarget Cells.operatorNumber Cells.comparisonNumber Cells.operatorOf Cells.comparisonOf Cells.operandOf Cells.jumpOf Cells.cellOf Cells.valueOf Cells.conditionOf Cells.holdOf Cells.statementBy Cells.statementOf Names.letter Names.digit Names.wordCharacter Names.mnemonics Names.variableNames Names.paperVariable Names.paperWord Names.twoCharacters Names.userName DriveWords.driveWords Names.reserved Names.freeName Statements.compared Statements.operands Statements.writes Statements.targets Variables.rangeOf Variables.startVariables Variables.allInputs Variables.mostCells Variables.mostLabels Variables.mostVariables Faults.overlong Faults.longLine Faults.badForm Faults.tooBig Faults.bigValue Faults.bigIn Faults.bigLiteral Faults.declares Faults.reservedName Faults.heard Faults.makesCell Faults.makesLabel Faults.makesVariable Faults.howMany Faults.declaresIt Faults.repeated Faults.tooMany Faults.firstMakes Faults.unknownVariable Faults.unknownValue Faults.unknownIn Faults.undeclared Faults.readOnlyWritten Faults.faults Faults.faultsFrom Faults.said Faults.textFaults Faults.firstFrom Faults.firstFault Faults.placeOf Faults.rankOf Faults.numberOf Forms.operatorSign Forms.comparisonSign Forms.meant Forms.operatorMeant Forms.comparisonMeant Forms.digits Forms.decimal Forms.literal Forms.variableName Forms.variable Forms.operand Forms.put Forms.word Forms.sign Forms.takes Forms.fill Forms.forms Forms.byForm Forms.statement Forms.reading Lines.ontoFirstLine Lines.lines Tokens.printable Tokens.uncommented Tokens.joins Tokens.ontoFirstToken Tokens.tokens Check.badLength Check.badEdition Check.badTrailer Check.layouts Check.goodWritten Check.goodSelector Check.goodOperand Check.goodTarget Check.fits Check.badCell Check.badCells Check.recordPlace Check.recordName Check.badName Check.badTarget Check.badStart Check.badRecords Check.imageFaults Check.checked Layout.shape Layout.operandNumber Layout.cellBytes Layout.labelBytes Layout.variableBytes Layout.imageLength Layout.trailerBytes Layout.trailerPlace Layout.firstLabelPlace Layout.cellCount Layout.labelCount Layout.variableCount Layout.edition Layout.wholeLength Layout.operandAt Layout.cellAt Layout.labelPlace Layout.labelTarget Layout.variablePlace Layout.startValue Layout.startValues Layout.nameAt Errors.resultError Effects.read Effects.storing Effects.storingResult Effects.operate Effects.zeroDivisor Effects.storingWith Effects.compares Effects.calling Effects.returning Effects.waiting Effects.holding Effects.moving Effects.slewing Effects.value Effects.holds Effects.printing Effects.branching Effects.callingIf Effects.effect Deeds.inError Deeds.clears Deeds.isER Deeds.readsER Events.eventAt Events.eventCount Events.events Happens.input Happens.arrivedBy Happens.happens Events.goodEvent Events.badScript Events.badEvent Events.badEvents Events.firstBadEvent Events.recordBytes Run.reachBy Run.traceOn Run.finally Run.courseOf Turn.noHandler Turn.startMachine Turn.stored Turn.storeRecord Turn.keep Turn.release Turn.lastPlace Turn.callsOnly Turn.movingBit Turn.inMotion Turn.slew Turn.called Turn.handled Turn.rearmed Turn.returned Turn.armed Turn.held Turn.flagged Turn.failed Turn.applied Turn.clearing Turn.turn Places.lineAt Places.starts Following.lineActs Following.linesCourse Following.textCourse Following.followed Following.followedInto Running.checkedAs Courses.cellActs Courses.imageCourse Answers.motionNumber Answers.motionValue Answers.statePlaceOf Answers.stateOf Answers.noState Answers.ranAs Answers.refusedAs Running.bigBudget Running.smallRoom Running.runFaults Running.runRefusal Running.refusalIndex Running.ran Run.over Running.ranInto Images.cellPart Images.labelPart Images.variablePart Images.imageOf Images.image Images.accepted Translating.tooShort Translating.translated Translating.translatedInto
 sheet-holds = ((refl, refl, tt), ((refl, refl, ((refl, refl, refl, refl), tt)), ((refl, refl, ((refl, refl, refl, refl), ((refl, refl, refl, refl), tt))), ((refl, refl, ((refl, refl, refl, refl), tt)), ((refl, refl, ((refl, refl, refl, refl), tt)), ((refl, refl, ((refl, refl, refl, refl), tt)), ((refl, refl, ((refl, refl, refl, refl), tt)), ((refl, refl, ((refl, refl, refl, refl), tt)), ((refl, refl, ((refl, refl, refl, refl), tt)), ((refl, refl, tt), ((refl, refl, ((refl, refl, refl, refl), tt)), ((refl, refl, ((refl, refl, refl, refl), tt)), ((refl, refl, ((refl, refl, refl, refl), tt)), ((refl, refl, ((refl, refl, refl, refl), tt)), ((refl, refl, ((refl, refl, refl, refl), ((refl, refl, refl, refl), tt))), ((refl, refl, ((refl, refl, refl, refl), tt)), tt))))))))))))))))

@@ -1,7 +1,7 @@
 // The parts of the answers: a state, and the refusals.
 ghost use mathlib.Core.Path.{_≡_};
 ghost use mathlib.Core.List.{map};
-ghost use Rattle.bench.specs.Answers.{placeOf, noPlace, stateOf, noState, refusedAs, motionNumber, motionValue};
+ghost use Rattle.bench.specs.Answers.{statePlaceOf, noPlace, stateOf, noState, refusedAs, motionNumber, motionValue};
 ghost use Rattle.bench.specs.Translating.{answered};
 ghost use Rattle.bench.specs.Listings.{listAnswered};
 use crate::Listed;
@@ -90,7 +90,7 @@ const BY_CALL: u8 = 0;
 const BY_HANDLER: u8 = 1;
 
 fn place_of(place: Place) -> StatePlace
-    ensures { λ r. ⌜ r ≡ placeOf place ⌝ }
+    ensures { λ r. ⌜ r ≡ statePlaceOf place ⌝ }
 {
     if place.handler == Machine::NO_HANDLER {
         return StatePlace {
@@ -109,7 +109,7 @@ fn place_of(place: Place) -> StatePlace
 // All eight return places. The first are told again, once for each that is kept: in a loop whose end is known when it runs, the compiler leaves a machine's places
 // in one piece.
 fn places_of(places: Places) -> [StatePlace; 8]
-    ensures { λ r. ⌜ r ≡ map placeOf (places .all) ⌝ }
+    ensures { λ r. ⌜ r ≡ map statePlaceOf (places .all) ⌝ }
 {
     let all = places.all;
     let mut told = [no_place(); 8];

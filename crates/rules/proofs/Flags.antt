@@ -6,7 +6,7 @@ use mathlib.Core.List.{List}
 use mathlib.Core.Logic.{_⊎_, inl, inr, ⊎-elim}
 use Prim.Native.Nat.{ℕ, suc, zero, _+_, _<_}
 use native.Mathlib.Omega.{arith}
-use borrow.Author.Tests.{ne-eqb}
+use borrow.Author.Tests.{ne-eqb, eqb-false}
 use lib.Dec.{T, eqb, leb, ltb, leb→le}
 use denote.Enum.Declared.{tagOf}
 use lib.IntN.{ℤ, pos, negsuc, natAbs}
@@ -40,9 +40,12 @@ use Rattle.rules.proofs.Errors.{applied-in-error}
 use Rattle.rules.proofs.Turn.{Sound, sound-effect, ruled-effect, ruled-turn, zero-only}
 use Rattle.rules.proofs.Run.{ruled-act}
 
--- Only an effect with the tag of a store is one to ER.
+-- Two effects with different tags differ; so only one with the tag of a store is a store to ER.
+pub tags-apart : {e f : Effect} → eqb (tagOf the-type e) (tagOf the-type f) ≡ false → e ≡ f → ⊥
+tags-apart {e} {f} n p = eqb-false (tagOf the-type e) (tagOf the-type f) n (ap (tagOf the-type) p)
+
 no-store : {e : Effect} → eqb (tagOf the-type e) 1 ≡ false → StoresER e → ⊥
-no-store p h = true≢false (sym (ap (λ (e : Effect). eqb (tagOf the-type e) 1) (h .1)) ∙ p)
+no-store p h = tags-apart p (h .1)
 
 -- What an effect leaves of ER and EF, before anything is cleared: the error and 1, 0 and 0, or what they were.
 data Leaves (e : Effect) (before after : List ℤ) : Type 0 where

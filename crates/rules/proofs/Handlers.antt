@@ -38,10 +38,7 @@ use Rattle.rules.proofs.Events.{ruled-event}
 use Rattle.rules.proofs.Start.{everywhere}
 use Rattle.rules.proofs.Turn.{Sound, sound-effect}
 use Rattle.rules.proofs.Run.{ruled-act}
-
--- Two effects with different tags differ.
-apart : {e f : Effect} → eqb (tagOf the-type e) (tagOf the-type f) ≡ false → e ≡ f → ⊥
-apart {e} {f} n p = eqb-false (tagOf the-type e) (tagOf the-type f) n (ap (tagOf the-type) p)
+use Rattle.rules.proofs.Flags.{tags-apart}
 
 -- Neither an OE nor a return.
 pub record Quiet (e : Effect) : Type 0 where
@@ -49,7 +46,7 @@ pub record Quiet (e : Effect) : Type 0 where
   pub no-return : e ≡ Returns → ⊥
 
 quiet : {e : Effect} → eqb (tagOf the-type e) 9 ≡ false → eqb (tagOf the-type e) 10 ≡ false → eqb (tagOf the-type e) 5 ≡ false → Quiet e
-quiet n o p = record { no-choice = ⊎-elim (λ h. apart n (h .1)) (apart o); no-return = apart p }
+quiet n o p = record { no-choice = ⊎-elim (λ h. tags-apart n (h .1)) (tags-apart o); no-return = tags-apart p }
 
 -- A place that is the same is marked too.
 still-marked : {p q : Place} → p ≡ q → (q .handler ≡ noHandler → ⊥) → p .handler ≡ noHandler → ⊥
@@ -106,7 +103,7 @@ module _ (cells variables : ℕ) (holds : ℕ → Bool) (m : Machine) (kept : Ke
 
   -- An effect that is no error.
   unerring : {e : Effect} → eqb (tagOf the-type e) 0 ≡ false → Erring e → ⊥
-  unerring n h = apart n (h .1)
+  unerring n h = tags-apart n (h .1)
 
   -- No place changes, nor does the handler.
   resting : {e : Effect} → Quiet e → (CallsHandler e (m .places) (m .handler) → ⊥) → Left e m
@@ -139,8 +136,8 @@ module _ (cells variables : ℕ) (holds : ℕ → Bool) (m : Machine) (kept : Ke
       holding : (b : Bool) → ltb 0 turns ≡ b → Left (Holds turns) (held turns m)
       holding true e = rw e (resting (quiet refl refl refl) (λ c. unerring refl (c .0)))
       holding false e = rw e (resting (quiet refl refl refl) (λ c. unerring refl (c .0)))
-  by-effect (Arms cell) s = choosing (inl (cell, refl)) (unerring refl) (apart refl) refl (λ c e. let p : cell ≡ c = cc in p) (λ e. absurd (apart refl e))
-  by-effect Disarms s = choosing (inr refl) (unerring refl) (apart refl) refl (λ c e. absurd (apart refl e)) (λ e. refl)
+  by-effect (Arms cell) s = choosing (inl (cell, refl)) (unerring refl) (tags-apart refl) refl (λ c e. let p : cell ≡ c = cc in p) (λ e. absurd (tags-apart refl e))
+  by-effect Disarms s = choosing (inr refl) (unerring refl) (tags-apart refl) refl (λ c e. absurd (tags-apart refl e)) (λ e. refl)
   by-effect (Moves target kind z) s = resting (quiet refl refl refl) (λ c. unerring refl (c .0))
   by-effect (Slews z) s = resting (quiet refl refl refl) (λ c. unerring refl (c .0))
   by-effect (Prints v z) s = resting (quiet refl refl refl) (λ c. unerring refl (c .0))
@@ -186,8 +183,8 @@ module _ {c : ℕ} {places : Places} (kept : Kept c places) {e : Effect} {next h
       })
   from-ways (returning r p h) =
       let last = places .kept - 1 in
-      let no-choice : Chooses e → ⊥ = ⊎-elim (λ o. apart refl (sym r ∙ o .1)) (λ o. apart refl (sym r ∙ o)) in
-      let no-error : Erring e → ⊥ = λ o. apart refl (sym r ∙ o .1) in
+      let no-choice : Chooses e → ⊥ = ⊎-elim (λ o. tags-apart refl (sym r ∙ o .1)) (λ o. tags-apart refl (sym r ∙ o)) in
+      let no-error : Erring e → ⊥ = λ o. tags-apart refl (sym r ∙ o .1) in
       rw (p, h)
       (record {
         marked =

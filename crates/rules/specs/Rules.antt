@@ -28,7 +28,7 @@ abbrev pub placeAt : Places → ℕ → Place
 placeAt places k = getD (places .all) k unused
 
 -- Turn 3, Q-7 5: the rules for a return place of a program with so many cells: the cell, and the target of the handler whose call kept it, are at most the
--- cell count. (That an answer tells no target where there is none, `placeOf` says.)
+-- cell count. (That an answer tells no target where there is none, `statePlaceOf` says.)
 pub record RuledPlace (cells : ℕ) (place : Place) : Type 0 where
   pub cell : place .cell ≤ cells
   pub handler : (place .handler ≡ noHandler → ⊥) → place .handler ≤ cells

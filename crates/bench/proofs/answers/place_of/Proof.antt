@@ -2,16 +2,16 @@
 -- Assumes nothing.
 use Rattle.numbers.proofs.Kit.{tests}
 use Rattle.machine.specs.Turn.{noHandler}
-use Rattle.bench.specs.Answers.{placeOf}
+use Rattle.bench.specs.Answers.{statePlaceOf}
 use Rattle.bench.proofs.answers.place_of.Statement.{statement}
 use Rattle.bench.proofs.answers.place_of.Tie as tie
 
 returns : tie.Need-returns
-unfolding placeOf noHandler
+unfolding statePlaceOf noHandler
 returns c = search tests
 
 returns-2 : tie.Need-returns-2
-unfolding placeOf noHandler
+unfolding statePlaceOf noHandler
 returns-2 c = search tests
 
 pub place-of-spec : {M : Type 1} → statement M

@@ -12,7 +12,7 @@ use Rattle.numbers.proofs.Kit.{length-held}
 use Rattle.numbers.proofs.Truth.{if-same}
 use Rattle.machine.specs.declared.Place.{Place}
 use Rattle.bench.specs.declared.StatePlace.{StatePlace}
-use Rattle.bench.specs.Answers.{placeOf}
+use Rattle.bench.specs.Answers.{statePlaceOf}
 use Rattle.bench.proofs.answers.places_of.Statement.{statement}
 use Rattle.bench.proofs.answers.places_of.Tie as tie
 
@@ -24,9 +24,9 @@ none = record { cell = 0; handler = 0 }
 pub record Told (all : List Place) (i : ℕ) (told : List StatePlace) : Type 0 where
   pub many : length all ≡ 8
   pub size : length told ≡ 8
-  pub each : (j : ℕ) → j < i → j < 8 → getD told j (placeOf none) ≡ placeOf (getD all j none)
+  pub each : (j : ℕ) → j < i → j < 8 → getD told j (statePlaceOf none) ≡ statePlaceOf (getD all j none)
 
-told-next : (all : List Place) (i : ℕ) (told : List StatePlace) → Told all i told → Told all (i + 1) (set told (i % 8) (placeOf (getD all (i % 8) none)))
+told-next : (all : List Place) (i : ℕ) (told : List StatePlace) → Told all i told → Told all (i + 1) (set told (i % 8) (statePlaceOf (getD all (i % 8) none)))
 told-next all i told t =
     let m = mod-lt i {m = 8} (omega arith) in
     let n = t .size in
@@ -35,16 +35,16 @@ told-next all i told t =
       size = length-set told (i % 8) _ ∙ t .size;
       each =
           λ j h k. if-same j (i % 8)
-          (λ e. rw (e, getD-set-same told (i % 8) (placeOf (getD all (i % 8) none)) (placeOf none) (omega arith)))
-          (λ o. getD-set-other told (i % 8) j (placeOf (getD all (i % 8) none)) (placeOf none) o
+          (λ e. rw (e, getD-set-same told (i % 8) (statePlaceOf (getD all (i % 8) none)) (statePlaceOf none) (omega arith)))
+          (λ o. getD-set-other told (i % 8) j (statePlaceOf (getD all (i % 8) none)) (statePlaceOf none) o
           ∙ t .each j (if-same j i (λ e. let s : i < 8 = omega arith in absurd (o (e ∙ sym (mod-eq-of-lt s)))) (λ d. omega arith)) k);
     }
 
-told-all : (all : List Place) (i : ℕ) (told : List StatePlace) → 8 ≤ i → Told all i told → told ≡ map placeOf all
+told-all : (all : List Place) (i : ℕ) (told : List StatePlace) → 8 ≤ i → Told all i told → told ≡ map statePlaceOf all
 told-all all i told h t =
     let n = t .size in
-    ext-getD (placeOf none) told (map placeOf all) (t .size ∙ sym (length-map all placeOf ∙ t .many))
-    (λ j k. t .each j (omega arith) (omega arith) ∙ sym (List·getD-map placeOf all j none))
+    ext-getD (statePlaceOf none) told (map statePlaceOf all) (t .size ∙ sym (length-map all statePlaceOf ∙ t .many))
+    (λ j k. t .each j (omega arith) (omega arith) ∙ sym (List·getD-map statePlaceOf all j none))
 
 abbrev Inv-loop : tie.InvT-loop
 Inv-loop all told₀ i₀ i-end told i = (i ≤ i-end) × (8 ≤ i-end) × Told all i told
