@@ -12,7 +12,7 @@ use lib.ListN.{length}
 use Rattle.numbers.specs.Tests.{lowest, NoRow}
 use Rattle.text.specs.Faults.{overlong, firstFault}
 use Rattle.image.specs.Check.{imageFaults, checked}
-use Rattle.refusals.proofs.Lowest.{lowest-range, lowest-exactly, lowest-zero}
+use Rattle.numbers.proofs.Lowest.{lowest-range, lowest-exactly, lowest-zero}
 use Rattle.refusals.proofs.First.{first-none, Given, first-given}
 use Rattle.translation.specs.Images.{image}
 use Rattle.bench.specs.Translating.{answered}

@@ -10,6 +10,7 @@ use borrow.Author.Tests.{ltb-true, ltb-false, le-ltb, eqb-true, eqb-false, ne-eq
 use lib.Dec.{eqb, ltb}
 use lib.ListN.{length, take, drop}
 use lib.Seq.{take-at}
+use Rattle.numbers.specs.Bytes.{Bytes}
 use Rattle.numbers.specs.Tests.{lowest, Lowest, NoRow}
 use Rattle.text.specs.declared.Fault.{Fault}
 use Rattle.text.specs.Faults.{overlong, fault, firstFault}
@@ -19,7 +20,7 @@ use Rattle.machine.specs.Run.{Course, over}
 use Rattle.running.specs.Courses.{cellActs, imageTrace, imageCourse}
 use Rattle.translation.specs.Images.{image, accepted}
 use Rattle.events.proofs.Scripts.{bad-events}
-use Rattle.refusals.proofs.Lowest.{lowest-range, lowest-exactly, lowest-zero, first-exactly}
+use Rattle.numbers.proofs.Lowest.{lowest-range, lowest-exactly, lowest-zero, first-exactly}
 use Rattle.refusals.proofs.First.{first-exactly-at, first-none, Given, first-given}
 use Rattle.printing.specs.Listing.{listing}
 use Rattle.listing.proofs.Back.{listing-accepted}
@@ -34,7 +35,7 @@ use Rattle.bench.specs.Calls.{Translates, Checks, Runs}
 use Rattle.bench.specs.declared.Translated.{Translated}
 use Rattle.bench.specs.declared.Checked.{Checked}
 use Rattle.bench.specs.declared.Ran.{Ran}
-use Rattle.bench.specs.Demands.{Bytes, Translation, given, FirstFault, FirstBad, TextRefused, ImageRefused, RunRefused, TurnsInto, Demand1, Demand2, Demand3, ourTranslate, ourCheck, ourRun}
+use Rattle.bench.specs.Demands.{Translation, given, FirstFault, FirstBad, TextRefused, ImageRefused, RunRefused, TurnsInto, Demand1, Demand2, Demand3, ourTranslate, ourCheck, ourRun}
 use Rattle.bench.proofs.Texts.{clean-bytes}
 
 -- The promises of the calls (Calls.antt) say exactly that they are these functions.

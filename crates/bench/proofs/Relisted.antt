@@ -7,6 +7,7 @@ use Prim.Native.Nat.{ℕ, _+_, _-_, _≤_, _<_}
 use native.Mathlib.Omega.{arith}
 use lib.ListN.{length, drop, replicate, length-replicate}
 use lib.Seq.{take-at}
+use Rattle.numbers.specs.Bytes.{Bytes}
 use Rattle.numbers.specs.Tests.{NoRow}
 use Rattle.numbers.proofs.Truth.{if-same, if-below}
 use Rattle.image.specs.Check.{imageFaults, checked}
@@ -20,7 +21,7 @@ use Rattle.bench.specs.Translating.{answered}
 use Rattle.bench.specs.Listings.{listAnswered, listedAs}
 use Rattle.bench.specs.Running.{checkedAs}
 use Rattle.bench.specs.Calls.{Lists}
-use Rattle.bench.specs.Demands.{Bytes, Translate, given, ourTranslate}
+use Rattle.bench.specs.Demands.{Translate, given, ourTranslate}
 use Rattle.bench.specs.Requests.{Listing, ListImage, told, ListRefused, Request1, ourList}
 use Rattle.bench.specs.declared.Listed.{Listed}
 use Rattle.bench.proofs.Listings.{refused-image, refused-kept, short-refused, short-kept, fits-answered, fits-listed}

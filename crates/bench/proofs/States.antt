@@ -38,7 +38,7 @@ use Rattle.rules.proofs.Run.{ruled-run}
 use Rattle.rules.proofs.Start.{ruled-start}
 use Rattle.rules.proofs.Never.{run-bounded}
 use Rattle.rules.proofs.Slewing.{NoZeroSlew, started-nonzero}
-use Rattle.refusals.proofs.Lowest.{lowest-zero}
+use Rattle.numbers.proofs.Lowest.{lowest-zero}
 use Rattle.listing.proofs.Accepted.{accepted, faultless}
 use Rattle.listing.proofs.Recorded.{Recorded, recorded}
 use Rattle.listing.proofs.Resolved.{Written, Aimed, stands}

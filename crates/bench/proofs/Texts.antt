@@ -9,6 +9,7 @@ use native.Mathlib.Omega.{arith}
 use borrow.Author.Tests.{eqb-true}
 use lib.Dec.{T, eqb, leb, leb→le}
 use lib.ListN.{length, getD}
+use Rattle.numbers.specs.Bytes.{Bytes}
 use Rattle.numbers.specs.Tests.{allOf}
 use Rattle.numbers.proofs.Truth.{both, both-of}
 use Rattle.text.specs.Lines.{ontoFirstLine, lines}
@@ -17,7 +18,6 @@ use Rattle.text.specs.Forms.{statement, reading}
 use Rattle.text.specs.Faults.{badForm, firstFault}
 use Rattle.refusals.proofs.Rows.{row-3}
 use Rattle.refusals.proofs.First.{first-none}
-use Rattle.bench.specs.Demands.{Bytes}
 
 -- A line with a form is printable.
 formed : (l : List ℕ) → badForm l ≡ false → T (allOf printable l)

@@ -5,7 +5,8 @@ use mathlib.Core.Bool.{true, false}
 use mathlib.Core.List.{List, _++_}
 use mathlib.Core.Logic.{_↔_}
 use Prim.Native.Nat.{ℕ, _+_, _*_, _≤_, _<_}
-use lib.ListN.{length, take, drop, getD}
+use lib.ListN.{length, take, drop}
+use Rattle.numbers.specs.Bytes.{Bytes}
 use Rattle.numbers.specs.Tests.{Lowest, NoRow}
 use Rattle.text.specs.Faults.{overlong, faultsOf}
 use Rattle.image.specs.Check.{imageFaults}
@@ -20,10 +21,6 @@ use Rattle.bench.specs.Following.{followed, followedInto}
 use Rattle.bench.specs.declared.Translated.{Translated}
 use Rattle.bench.specs.declared.Checked.{Checked}
 use Rattle.bench.specs.declared.Ran.{Ran}
-
--- Each number is one byte.
-abbrev pub Bytes : List ℕ → Type 0
-Bytes s = (k : ℕ) → getD s k 0 < 256
 
 -- What translating gives: the answer, and the image buffer as the call leaves it. It is given a text and a buffer.
 pub record Translation : Type 0 where

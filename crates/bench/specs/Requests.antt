@@ -8,7 +8,7 @@ use Prim.Native.Nat.{ℕ, _+_, _≤_, _<_}
 use lib.Dec.{T}
 use lib.IntN.{ℤ, pos}
 use lib.ListN.{length, take, drop, getD}
-use Rattle.numbers.specs.Bytes.{ascii}
+use Rattle.numbers.specs.Bytes.{Bytes, ascii}
 use Rattle.numbers.specs.Tests.{Lowest, NoRow, Each, anyOf, between, eqList, eqZ}
 use Rattle.program.specs.Names.{Name, twoCharacters, reserved, newlyReserved, freeName}
 use Rattle.program.specs.Variables.{inRange, literals}
@@ -36,7 +36,7 @@ use Rattle.printing.specs.Listing.{listing, plain}
 use Rattle.bench.specs.Translating.{answered}
 use Rattle.bench.specs.Listings.{listAnswered, listedAs, listedInto}
 use Rattle.bench.specs.Following.{lineActs, textTrace, textCourse}
-use Rattle.bench.specs.Demands.{Bytes, Translate, Check, Run, Demand1, Demand2, Demand3, given}
+use Rattle.bench.specs.Demands.{Translate, Check, Run, Demand1, Demand2, Demand3, given}
 use Rattle.bench.specs.Answers.{noPlace}
 use Rattle.bench.specs.declared.Listed.{Listed}
 use Rattle.bench.specs.declared.StatePlace.{StatePlace}

@@ -10,9 +10,9 @@ use native.Mathlib.Decide.{decLt}
 use borrow.Author.Tests.{lt-ltb, le-ltb}
 use lib.Dec.{T, eqb, leb, leb→le, eqb-refl, eqb→eq}
 use lib.ListN.{length, getD}
-use Rattle.numbers.specs.Bytes.{bytes, number}
+use Rattle.numbers.specs.Bytes.{Bytes, bytes, number}
 use Rattle.numbers.specs.Tests.{eqList}
-use Rattle.numbers.proofs.Laws.{Bytes, there-and-back, bytes-field, field-below}
+use Rattle.numbers.proofs.Laws.{there-and-back, bytes-field, field-below}
 use Rattle.program.specs.Names.{letter, digit, wordCharacter, twoCharacters, reserved, freeName}
 use Rattle.program.specs.Code.{nameOf}
 use Rattle.numbers.proofs.Truth.{both, either, same-test}

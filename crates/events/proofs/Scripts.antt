@@ -51,9 +51,6 @@ four-bytes from s =
     let g : from + 3 ≡ suc (suc (suc from)) = omega arith in
     rw (e, f, g) (omega (arith, field-more 3 from s, field-more 2 (suc from) s, field-more 1 (suc (suc from)) s, field-more 0 (suc (suc (suc from))) s, field-none (suc (suc (suc (suc from)))) s))
 
-pub one-byte : (from : ℕ) (s : List ℕ) → getD s from 0 ≡ field 1 from s
-one-byte from s = omega (arith, field-more 0 from s, field-none (suc from) s)
-
 pub event-inside : (s : List ℕ) (k : ℕ) → k < eventCount s → 12 * k + 12 ≤ length s
 unfolding eventCount
 event-inside s k h = omega (arith, div-mul-le-self (length s) 12)

@@ -2,23 +2,17 @@
 -- Assumes nothing.
 use mathlib.Core.Path.{_≡_, refl, ap, _∙_}
 use mathlib.Core.Bool.{Bool, true, false, cond}
-use mathlib.Core.List.{List, [], _∷_, _++_}
-use Prim.Native.Nat.{ℕ, suc, _+_, _≤_}
+use mathlib.Core.List.{List, [], _++_}
+use Prim.Native.Nat.{ℕ, _+_, _≤_}
 use native.Mathlib.Omega.{arith}
 use lib.Dec.{eqb}
-use lib.ListN.{length, set, length-append}
+use lib.ListN.{length, length-append}
 use lib.Seq.{sets}
 use Rattle.numbers.specs.Bytes.{bytes}
 use Rattle.numbers.specs.Bits.{digits32}
-use Rattle.numbers.proofs.Laws.{length-bytes}
+use Rattle.numbers.proofs.Laws.{length-bytes, sets-append}
 use Rattle.events.specs.declared.Record.{Record}
 use Rattle.events.specs.Events.{recordBytes}
-
--- One run of stores after another.
-module _ {A : Type 0} where
-  pub sets-append : (xs l : List A) (i : ℕ) (ys : List A) → sets l i (xs ++ ys) ≡ sets (sets l i xs) (i + length xs) ys
-  sets-append [] l i ys = let e : i + 0 ≡ i = omega arith in rw e
-  sets-append (x ∷ xs) l i ys = let e : i + suc (length xs) ≡ suc i + length xs = omega arith in rw e (sets-append xs (set l i x) (suc i) ys)
 
 -- Fields of these widths, written one after the other.
 pub written : (w n at : ℕ) (b ys : List ℕ) → sets b at (bytes w n ++ ys) ≡ sets (sets b at (bytes w n)) (at + w) ys

@@ -73,7 +73,7 @@ impl Event {
 
 // The event with this number, from 0.
 pub fn event_at(s: &[u8], k: usize) -> Event
-    requires { ⌜ k ≤ 4096 ⌝ }
+    requires { ⌜ k ≤ 8192 ⌝ }
     ensures { λ r. ⌜ r ≡ eventAt (now (s .entry)) k ⌝ }
 {
     let at = SIZE * k;
@@ -115,7 +115,7 @@ fn four(s: &[u8], from: usize) -> u32
 
 // The same of an event that is there: its bytes are read as they stand.
 pub fn whole_event(s: &[u8], k: usize) -> Event
-    requires { ⌜ (k < eventCount (now s)) × (eventCount (now s) ≤ 4096) ⌝ }
+    requires { ⌜ (k < eventCount (now s)) × (eventCount (now s) ≤ 8192) ⌝ }
     ensures { λ r. ⌜ r ≡ eventAt (now (s .entry)) k ⌝ }
 {
     let at = SIZE * k;

@@ -11,9 +11,9 @@ use lib.ListN.{length, length-append}
 use lib.Seq.{drop-append-add, drop-at, take-at}
 use mir.Syntax.{w32}
 use mir.Val.{SFits}
-use Rattle.numbers.specs.Bytes.{bytes, field}
+use Rattle.numbers.specs.Bytes.{Bytes, bytes, field}
 use Rattle.numbers.specs.Bits.{digits32, signed32}
-use Rattle.numbers.proofs.Laws.{Bytes, length-bytes, field-back, there-and-back, back-and-there, signed-digits, digits-below}
+use Rattle.numbers.proofs.Laws.{length-bytes, field-back, there-and-back, back-and-there, signed-digits, digits-below}
 use Rattle.program.specs.Code.{key}
 use Rattle.program.specs.Names.{Name}
 use Rattle.program.specs.declared.Cell.{Cell}

@@ -1,51 +1,29 @@
 -- Laws of writing the parts of an image one behind the other, and of their lengths.
 -- Assumes nothing.
-use mathlib.Core.Path.{_≡_, refl, _∙_}
-use mathlib.Core.List.{List, [], _∷_, _++_, append-assoc}
-use Prim.Native.Nat.{ℕ, zero, suc, _+_, _*_, _/_, _%_, _^_, _≤_, _<_}
-use native.Mathlib.Nat.{add-zero, zero-add, add-suc, suc-add, mul-comm, mul-assoc, pow-suc, div-lt-iff-lt-mul, zero-lt-suc}
+use mathlib.Core.Path.{_≡_, _∙_}
+use mathlib.Core.List.{List, _++_, append-assoc}
+use Prim.Native.Nat.{ℕ, _+_, _*_, _%_, _≤_, _<_}
+use native.Mathlib.Nat.{add-zero}
 use native.Mathlib.Omega.{arith}
-use lib.ListN.{length, getD, set, length-append}
+use lib.ListN.{length, length-append}
 use lib.Seq.{sets}
-use Rattle.numbers.specs.Bytes.{bytes, field}
-use Rattle.numbers.proofs.Laws.{field-more, field-none, length-bytes}
+use Rattle.numbers.specs.Bytes.{bytes}
+use Rattle.numbers.proofs.Laws.{length-bytes, sets-append}
 use Rattle.program.specs.declared.Cell.{Cell}
 use Rattle.program.specs.declared.Operand.{Operand}
 use Rattle.program.specs.declared.Operand.the-variants.{Nothing, Literal, Variable}
 use Rattle.image.specs.Layout.{shape, operandNumber, cellBytes, trailerBytes, trailerPlace, imageLength}
 use Rattle.image.specs.Code.{firstHalf, secondHalf}
 
--- A field of one byte is that byte.
-pub field-one : (place : ℕ) (s : List ℕ) → field 1 place s ≡ getD s place 0
-field-one place s = field-more 0 place s ∙ omega (arith, field-none (suc place) s)
-
 -- A place in the trailer is a number of 64 bits.
 pub trailer-room : (s : List ℕ) {at : ℕ} → at ≡ trailerPlace s → at ≤ length s
 unfolding trailerPlace
 trailer-room s e = omega arith
 
--- Bytes stored behind others.
-pub sets-append : (b : List ℕ) (at : ℕ) (xs ys : List ℕ) → sets b at (xs ++ ys) ≡ sets (sets b at xs) (at + length xs) ys
-sets-append b at [] ys = rw add-zero
-sets-append b at (x ∷ xs) ys = sets-append (set b at x) (suc at) xs ys ∙ rw (suc-add, add-suc)
-
 -- A byte is the same from the number's lowest eight digits.
 byte-mod : (n : ℕ) → bytes 1 (n % 256) ≡ bytes 1 n
 unfolding bytes
 byte-mod n = let e : n % 256 % 256 ≡ n % 256 = omega arith in rw e
-
--- The bytes of two numbers, one behind the other, are those of one number.
-shifted : (a m : ℕ) → ((a + 256 * m) % 256 ≡ a % 256) × ((a + 256 * m) / 256 ≡ a / 256 + m)
-shifted a m = (omega arith, omega arith)
-
-pub bytes-two : (w v a b : ℕ) → a < 256 ^ w → bytes (w + v) (a + 256 ^ w * b) ≡ bytes w a ++ bytes v b
-unfolding bytes
-bytes-two zero v a b h = let e : a + 256 ^ 0 * b ≡ b = omega arith in rw (zero-add v, e)
-bytes-two (suc w) v a b h =
-    let d : a / 256 < 256 ^ w = div-lt-iff-lt-mul (zero-lt-suc 255) .1 (rw pow-suc at h) in
-    let e : 256 ^ suc w * b ≡ 256 * (256 ^ w * b) = rw (pow-suc, mul-comm (256 ^ w) 256, mul-assoc) refl in
-    let s = shifted a (256 ^ w * b) in
-    rw (suc-add, e) (rw (s .0, s .1, bytes-two w v (a / 256) b d))
 
 pub shape-small : (o : Operand) → shape o < 3
 unfolding shape
@@ -61,7 +39,7 @@ first-packed c es el ex ey eh er = er ∙ rw (eh, ex, ey, el, es, byte-mod) (sim
 
 pub twice-written : (b : List ℕ) (at : ℕ) (f g : ℕ) {xs ys b₁ b₂ : List ℕ} → bytes 8 f ≡ xs → bytes 8 g ≡ ys
     → b₁ ≡ sets b at (bytes 8 f) → b₂ ≡ sets b₁ (at + 8) (bytes 8 g) → b₂ ≡ sets b at (xs ++ ys)
-twice-written b at f g ef eg h₁ h₂ = h₂ ∙ rw (h₁, ← ef, ← eg, sets-append b at (bytes 8 f) (bytes 8 g), length-bytes 8 f)
+twice-written b at f g ef eg h₁ h₂ = h₂ ∙ rw (h₁, ← ef, ← eg, sets-append (bytes 8 f) b at (bytes 8 g), length-bytes 8 f)
 
 pub cell-halves : (c : Cell) → firstHalf c ++ secondHalf c ≡ cellBytes c
 unfolding firstHalf secondHalf cellBytes

@@ -30,7 +30,7 @@ fn operand_number(o: Operand) -> u32
     }
 }
 
-// The number whose bytes are those of two numbers, one behind the other: of one byte each, of two, of four.
+// The number whose bytes are those of two numbers, one behind the other: of one byte each, of two.
 fn two_bytes(low: u8, high: u8) -> u16
     ensures { λ r. ⌜ bytes 2 r ≡ bytes 1 low ++ bytes 1 high ⌝ }
 {
@@ -43,12 +43,6 @@ fn four_bytes(low: u16, high: u16) -> u32
     (low as u32) + 65536 * (high as u32)
 }
 
-fn eight_bytes(low: u32, high: u32) -> u64
-    ensures { λ r. ⌜ bytes 8 r ≡ bytes 4 low ++ bytes 4 high ⌝ }
-{
-    (low as u64) + 4294967296 * (high as u64)
-}
-
 // The first eight bytes of a cell: operation, variable written, operator or comparison, shapes, left operand.
 fn first_half(c: Cell) -> u64
     ensures { λ r. ⌜ bytes 8 r ≡ firstHalf c ⌝ }
@@ -58,7 +52,7 @@ fn first_half(c: Cell) -> u64
     let shapes = shape(left) + crate::RIGHT_SHAPE * shape(right);
     let front = two_bytes(c.operation, (c.written % 256) as u8);
     let head = four_bytes(front, two_bytes(c.selector, shapes));
-    eight_bytes(head, operand_number(left))
+    numbers::eight_bytes(head, operand_number(left))
 }
 
 // The other eight: right operand, target, zeros.
@@ -66,7 +60,7 @@ fn second_half(c: Cell) -> u64
     ensures { λ r. ⌜ bytes 8 r ≡ secondHalf c ⌝ }
 {
     let right = c.right;
-    eight_bytes(operand_number(right), four_bytes(c.target, 0))
+    numbers::eight_bytes(operand_number(right), four_bytes(c.target, 0))
 }
 
 // The 16 bytes of a cell.
@@ -95,7 +89,7 @@ pub fn write_variable(b: &mut [u8], at: usize, name: u16, start: i32)
         b,
         at,
         8,
-        eight_bytes(four_bytes(name, 0), numbers::digits(start)),
+        numbers::eight_bytes(four_bytes(name, 0), numbers::digits(start)),
     );
 }
 
@@ -108,8 +102,8 @@ pub fn write_trailer(b: &mut [u8], at: usize, cells: u16, labels: u16, variables
     }
     let first_label = crate::label_place(cells, 0) as u32;
     let whole = crate::image_length(cells, labels, variables) as u32;
-    let front = eight_bytes(first_label, four_bytes(cells, labels));
-    let back = eight_bytes(four_bytes(variables, crate::THIS_EDITION), whole);
+    let front = numbers::eight_bytes(first_label, four_bytes(cells, labels));
+    let back = numbers::eight_bytes(four_bytes(variables, crate::THIS_EDITION), whole);
     numbers::write(b, at, 8, front);
     numbers::write(b, at + crate::VARIABLE_COUNT, 8, back);
 }

@@ -7,7 +7,7 @@ use Prim.Native.Nat.{ℕ, zero, suc, _+_, _≤_, _<_}
 use native.Mathlib.Omega.{arith}
 use lib.Dec.{T, eqb}
 use Rattle.numbers.specs.Tests.{allOf, anyOf, listed, eqList}
-use Rattle.numbers.proofs.Laws.{Bytes}
+use Rattle.numbers.specs.Bytes.{Bytes}
 use Rattle.program.specs.Names.{Name}
 use Rattle.numbers.proofs.Tests.{all-listed, eqList-eq, all-append, any-append}
 use Rattle.numbers.proofs.Truth.{is-no}

@@ -4,7 +4,7 @@ use mathlib.Core.Path.{_≡_, refl, sym, ap, ap₂, _∙_}
 use mathlib.Core.List.{List, _++_, flatMap, append-nil}
 use Prim.Native.Nat.{ℕ, _+_, _*_}
 use native.Mathlib.Nat.{zero-add, add-assoc}
-use Rattle.numbers.proofs.Laws.{Bytes}
+use Rattle.numbers.specs.Bytes.{Bytes}
 use Rattle.numbers.proofs.Lists.{flat-append}
 use Rattle.text.specs.Forms.{Line}
 use Rattle.image.specs.Layout.{cellBytes, labelBytes, cellCount, labelCount, variableCount, labelPlace, variablePlace}

@@ -10,10 +10,10 @@ use native.Mathlib.Omega.{arith}
 use lib.Dec.{T, eqb, eqb→eq}
 use lib.ListN.{length, take, drop}
 use lib.Seq.{take-add, drop-drop, take-all}
-use Rattle.numbers.specs.Bytes.{bytes, field}
+use Rattle.numbers.specs.Bytes.{Bytes, bytes, field}
 use Rattle.numbers.specs.Bits.{signed32}
 use Rattle.numbers.specs.Tests.{listed}
-use Rattle.numbers.proofs.Laws.{Bytes, bytes-field, field-below, digits-signed}
+use Rattle.numbers.proofs.Laws.{bytes-field, field-below, digits-signed}
 use Rattle.numbers.proofs.Truth.{both, either}
 use Rattle.numbers.proofs.Tests.{from-some}
 use Rattle.program.specs.Variables.{inRange, literals, present}

@@ -7,10 +7,10 @@ use native.Mathlib.Omega.{arith}
 use lib.IntN.{ℤ, pos}
 use lib.ListN.{length, getD, set, take}
 use lib.Seq.{take-suc, length-take-le}
+use Rattle.numbers.proofs.Laws.{sets-append}
 use Rattle.program.specs.Variables.{startVariables}
 use Rattle.events.specs.declared.Event.{Event}
 use Rattle.events.specs.Events.{eventAt}
-use Rattle.events.proofs.Written.{sets-append}
 use Rattle.machine.specs.declared.Machine.{Machine}
 use Rattle.machine.specs.Turn.{withVariables, startMachine}
 use Rattle.machine.specs.Happens.{happens}

@@ -3,17 +3,33 @@
 use mathlib.Core.Path.{_≡_, refl, sym, ap, subst, _∙_}
 use mathlib.Core.List.{List, [], _∷_, _++_, map, flatMap, append-assoc}
 use mathlib.Core.Logic.{⊎-elim}
-use Prim.Native.Nat.{ℕ, zero, suc, _+_, _≤_, _<_}
-use native.Mathlib.Nat.{eq-or-lt-of-le}
+use Prim.Native.Nat.{ℕ, zero, suc, _+_, _*_, _≤_, _<_}
+use native.Mathlib.Nat.{eq-or-lt-of-le, add-comm, mul-zero, mul-suc}
 use native.Mathlib.Omega.{arith}
-use lib.ListN.{length, getD, set, take, drop}
-use lib.Seq.{getD-set-same, set-getD}
+use lib.ListN.{length, getD, set, take, drop, length-append}
+use lib.Seq.{getD-set-same, set-getD, drop-append-add}
 
 -- What is made of each of two lists, one behind the other.
 pub flat-append : {A B : Type 0} (f : A → List B) (xs ys : List A) → flatMap f (xs ++ ys) ≡ flatMap f xs ++ flatMap f ys
 unfolding flatMap
 flat-append f [] ys = refl
 flat-append {A} {B} f (x ∷ xs) ys = ap (λ (l : List B). f x ++ l) (flat-append f xs ys) ∙ sym (append-assoc (f x) (flatMap f xs) (flatMap f ys))
+
+-- What is made of each is w long: how long all of it is, and what stands behind what is made of the first i.
+module _ {A B : Type 0} (f : A → List B) (w : ℕ) (long : (x : A) → length (f x) ≡ w) where
+  pub length-flat : (xs : List A) → length (flatMap f xs) ≡ w * length xs
+  unfolding flatMap
+  length-flat [] = sym (mul-zero w)
+  length-flat (x ∷ xs) = length-append (f x) (flatMap f xs) ∙ rw (long x, length-flat xs, mul-suc) (add-comm w (w * length xs))
+
+  pub flat-at : (xs : List A) (i : ℕ) (d : A) (rest : List B) → i < length xs
+      → drop (w * i) (flatMap f xs ++ rest) ≡ f (getD xs i d) ++ (flatMap f (drop (suc i) xs) ++ rest)
+  unfolding flatMap
+  flat-at [] i d rest h = absurd (omega arith)
+  flat-at (x ∷ xs) zero d rest h = rw mul-zero (append-assoc (f x) (flatMap f xs) rest)
+  flat-at (x ∷ xs) (suc i) d rest h =
+      let e : w * suc i ≡ length (f x) + w * i = rw (long x, mul-suc) (add-comm (w * i) w) in
+      rw (e, append-assoc, drop-append-add) (flat-at xs i d rest (omega arith))
 
 -- A place that a list has holds the same whatever stands for those past the end.
 pub within : {A : Type 0} (l : List A) (i : ℕ) (d e : A) → i < length l → getD l i d ≡ getD l i e

@@ -11,7 +11,7 @@ use lib.ListN.{getD}
 use Rattle.numbers.specs.Tests.{lowest, Lowest, NoRow}
 use Rattle.text.specs.Faults.{textFaults, faultsOf, fault, firstFrom, firstFault}
 use Rattle.text.specs.declared.Fault.{Fault}
-use Rattle.refusals.proofs.Lowest.{lowest-range, lowest-exactly, lowest-zero}
+use Rattle.numbers.proofs.Lowest.{lowest-range, lowest-exactly, lowest-zero}
 use Rattle.refusals.proofs.Rows.{Possible, fault-range}
 
 -- What is given at a line whose lowest number is n.

@@ -9,9 +9,8 @@ use native.Mathlib.Omega.{arith}
 use borrow.Author.Tests.{ne-eqb, ltb-true, lt-leb, le-leb}
 use lib.Dec.{eqb, leb, ltb}
 use lib.ListN.{length, getD, length-append}
-use Rattle.numbers.specs.Bytes.{number}
+use Rattle.numbers.specs.Bytes.{Bytes, number}
 use Rattle.numbers.specs.Tests.{allOf}
-use Rattle.numbers.proofs.Laws.{Bytes}
 use Rattle.program.specs.Names.{digit, letter, wordCharacter}
 use Rattle.program.specs.Code.{key}
 use Rattle.text.specs.Tokens as Paper

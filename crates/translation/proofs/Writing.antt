@@ -11,10 +11,9 @@ use lib.Dec.{T, eqb}
 use lib.IntN.{ℤ}
 use lib.ListN.{length, take, drop}
 use lib.Seq.{sets, length-sets}
-use Rattle.numbers.specs.Bytes.{bytes}
+use Rattle.numbers.specs.Bytes.{Bytes, bytes}
 use Rattle.numbers.specs.Bits.{digits32}
 use Rattle.numbers.specs.Tests.{eqList, anyOf}
-use Rattle.numbers.proofs.Laws.{Bytes}
 use Rattle.numbers.proofs.Truth.{is-true}
 use Rattle.numbers.proofs.Tests.{eqList-refl}
 use Rattle.program.specs.Names.{Name, paperVariable, freeName}

@@ -3,7 +3,7 @@
 use mathlib.Core.Path.{sym, _∙_}
 use native.Mathlib.Omega.{arith}
 use lib.ListN.{List·getD-eq-default}
-use Rattle.image.proofs.Laws.{field-one}
+use Rattle.numbers.proofs.Laws.{field-one}
 use Rattle.image.proofs.byte.Statement.{statement}
 use Rattle.image.proofs.byte.Tie as tie
 

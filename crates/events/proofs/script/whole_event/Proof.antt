@@ -1,9 +1,10 @@
 -- `whole_event` meets its contract: each field is read where specs/ has it, and its bytes are there.
 -- Assumes nothing.
 use native.Mathlib.Omega.{arith}
+use Rattle.numbers.proofs.Laws.{field-one}
 use Rattle.program.proofs.Results.{got32}
 use Rattle.events.specs.Events.{eventAt}
-use Rattle.events.proofs.Scripts.{event-inside, one-byte}
+use Rattle.events.proofs.Scripts.{event-inside}
 use Rattle.events.proofs.script.whole_event.Statement.{statement}
 use Rattle.events.proofs.script.whole_event.Tie as tie
 
@@ -25,7 +26,7 @@ four-requires-2 c κs = let st = c .before .before .before .before .before in om
 returns : tie.Need-returns
 unfolding eventAt
 returns c =
-    simp (c .before .before .before .before .before .four .ensures, one-byte, c .before .before .two .ensures, got32 _ _ (c .signed .ok) (c .signed .ensures), c .before .four2 .ensures)
+    simp (c .before .before .before .before .before .four .ensures, ← field-one, c .before .before .two .ensures, got32 _ _ (c .signed .ok) (c .signed .ensures), c .before .four2 .ensures)
 
 pub whole-event-spec : {M : Type 1} → statement M
 whole-event-spec =

@@ -1,7 +1,7 @@
 -- `write::four_bytes` meets its contract: by the law for two numbers.
 -- Assumes nothing.
 use native.Mathlib.Omega.{arith}
-use Rattle.image.proofs.Laws.{bytes-two}
+use Rattle.numbers.proofs.Laws.{bytes-two}
 use Rattle.image.proofs.write.four_bytes.Statement.{statement}
 use Rattle.image.proofs.write.four_bytes.Tie as tie
 

@@ -29,7 +29,7 @@ loop-holds : tie.Need-loop-holds Inv-loop μ-loop
 loop-holds c = let p = c .before .pre in (omega arith, p .2 .0, p .0, λ m. refl, refl)
 
 whole-event-requires : tie.Need-whole-event-requires Inv-loop μ-loop
-whole-event-requires c κs = let p = c .before .before .before .before .pre in (omega (arith, p .2 .1, c .before .loop-test .taken), p .3)
+whole-event-requires c κs = let p = c .before .before .before .before .pre in (omega (arith, p .2 .1, c .before .loop-test .taken), omega (arith, p .3))
 
 -- The event that acts is a good one.
 good : (c : tie.After-whole-event Inv-loop μ-loop) → goodEvent (c .whole-event .result) ≡ true

@@ -1,9 +1,9 @@
--- `write::eight_bytes` meets its contract: by the law for two numbers.
+-- `eight_bytes` meets its contract: by the law for two numbers.
 -- Assumes nothing.
 use native.Mathlib.Omega.{arith}
-use Rattle.image.proofs.Laws.{bytes-two}
-use Rattle.image.proofs.write.eight_bytes.Statement.{statement}
-use Rattle.image.proofs.write.eight_bytes.Tie as tie
+use Rattle.numbers.proofs.Laws.{bytes-two}
+use Rattle.numbers.proofs.eight_bytes.Statement.{statement}
+use Rattle.numbers.proofs.eight_bytes.Tie as tie
 
 returns : tie.Need-returns
 returns c = bytes-two 4 4 (c .args .low) (c .args .high) (omega arith)
