@@ -1,0 +1,9 @@
+pub mod Sums
+pub mod Buffers
+pub mod Fields
+pub mod Cases
+pub mod Entries
+pub mod Listed
+pub mod Request
+pub mod Words
+pub mod Impostors

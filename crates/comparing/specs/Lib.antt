@@ -1,0 +1,3 @@
+pub mod Differences
+pub mod Calls
+pub mod Requests
