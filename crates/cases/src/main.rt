@@ -8,8 +8,10 @@ use parts::Line;
 
 const HEADER_SIZE: usize = 20;
 
-// The longest part, and the largest buffer that is lent.
-const ROOM: usize = 65536;
+// The longest part, and the largest buffer that is lent; where records are compared, and else.
+const ROOM: usize = 131072;
+
+const SMALL_ROOM: usize = 65536;
 
 // The kinds of request.
 const TRANSLATE: usize = 1;
@@ -20,11 +22,14 @@ const RUN: usize = 3;
 
 const LIST: usize = 4;
 
+const COMPARE: usize = 5;
+
 // A request's header. Its numbers are, by kind:
 //   translate: the text's length, 0, the size of the image buffer, 0
 //   check: the image's length, 0, 0, 0
 //   run: the image's length, the events' length, the budget, the size of the record buffer
 //   list: the image's length, 0, the size of the text buffer, 0
+//   compare: the lengths of the first and the second records, the size of the list, 0
 struct Header {
     kind: usize,
     n1: usize,
@@ -49,7 +54,7 @@ impl Header {
         (self.kind == TRANSLATE) | (self.kind == LIST)
     }
 
-    // The kind is one of the four, and each number that it does not use is 0.
+    // The kind is one of the five, and each number that it does not use is 0.
     fn is_of_a_kind(self) -> bool {
         if self.is_made() {
             return (self.n2 == 0) & (self.n4 == 0);
@@ -57,17 +62,30 @@ impl Header {
         if self.kind == CHECK {
             return (self.n2 == 0) & (self.n3 == 0) & (self.n4 == 0);
         }
+        if self.kind == COMPARE {
+            return self.n4 == 0;
+        }
         self.kind == RUN
     }
 
     // The size of the buffer that the call is lent.
     fn lent(self) -> usize {
-        if self.is_made() { self.n3 } else { self.n4 }
+        if self.kind == RUN { self.n4 } else { self.n3 }
+    }
+
+    // How long a part and a buffer may be.
+    fn room(self) -> usize {
+        if self.kind == COMPARE {
+            ROOM
+        } else {
+            SMALL_ROOM
+        }
     }
 
     // There is room for the parts and for the buffer too.
     fn is_sound(self) -> bool {
-        self.is_of_a_kind() & (self.n1 <= ROOM) & (self.n2 <= ROOM) & (self.lent() <= ROOM)
+        let room = self.room();
+        self.is_of_a_kind() & (self.n1 <= room) & (self.n2 <= room) & (self.lent() <= room)
     }
 }
 
@@ -104,6 +122,14 @@ fn answer_list(image: &[u8], text: &mut [u8]) -> bool {
     line::contents(line, text)
 }
 
+fn answer_compare(first: &[u8], second: &[u8], list: &mut [u8]) -> bool {
+    let compared = comparing::compare(first, second, list);
+    let mut line = Line::empty().byte(b'D');
+    line = line::number(line, compared.number as u64);
+    line = line::number(line, compared.entries as u64);
+    line::contents(line, list)
+}
+
 fn answer_run(image: &[u8], events: &[u8], budget: u64, records: &mut [u8]) -> bool {
     let ran = bench::run(image, events, budget, records);
     line::contents(line::ran(Line::empty().byte(b'R'), ran), records)
@@ -119,6 +145,9 @@ fn call(kind: usize, budget: u64, first: &[u8], second: &[u8], lent: &mut [u8]) 
     }
     if kind == LIST {
         return answer_list(first, lent);
+    }
+    if kind == COMPARE {
+        return answer_compare(first, second, lent);
     }
     answer_run(first, second, budget, lent)
 }
@@ -136,8 +165,8 @@ fn call_with(header: Header, first: &[u8], second: &[u8]) -> bool {
 
 // Reads the parts of a request, and answers it.
 fn serve(header: Header) -> bool {
-    let mut first = io::large_buffer();
-    let mut second = io::large_buffer();
+    let mut first = [0u8; ROOM];
+    let mut second = [0u8; ROOM];
     let n1 = header.n1;
     let n2 = header.n2;
     let got = receive(&mut first, n1);
