@@ -1,4 +1,4 @@
-/* Translator, checker, lister and runner in plain C, for comparing times. Names are two bytes as a number, the first character the low one. */
+/* Translator, checker, lister, runner and comparer in plain C, for comparing times. Names are two bytes as a number, the first character the low one. */
 #include "bench.h"
 
 enum { BLANK, LABEL, DECLARED, ACTS };
@@ -758,4 +758,39 @@ struct ran run(const u8 *image, u32 size, const u8 *events, u32 event_bytes, u32
     struct parts p = parts_of(image, size);
     course(&r, &p, events, count, budget, records);
     return r;
+}
+
+/* Comparing */
+
+static int bad_buffer(const u8 *s, u32 size) {
+    u32 count = size / 12;
+    if (size % 12 || 8192 < count) return 1;
+    for (u32 k = 0; k < count; k++)
+        if (read2(s + 12 * k + 6)) return 1;
+    return 0;
+}
+
+/* What differs between two records. */
+static u32 field_sum(const u8 *a, const u8 *b) {
+    return (read4(a) != read4(b)) + 2 * (a[4] != b[4]) + 4 * (a[5] != b[5]) + 8 * (read4(a + 8) != read4(b + 8));
+}
+
+/* The sum of a record number; 16 and 32 where one buffer has no such record. */
+static u32 sum_at(const u8 *first, u32 n, const u8 *second, u32 m, u32 k) {
+    return m <= k ? 16 : n <= k ? 32 : field_sum(first + 12 * k, second + 12 * k);
+}
+
+struct compared compare(const u8 *first, u32 first_bytes, const u8 *second, u32 second_bytes, u8 *list, u32 room) {
+    struct compared c = { 0 };
+    if (bad_buffer(first, first_bytes)) { c.number = 51; return c; }
+    if (bad_buffer(second, second_bytes)) { c.number = 52; return c; }
+    u32 n = first_bytes / 12, m = second_bytes / 12, end = n < m ? m : n, entries = 0;
+    for (u32 k = 0; k < end; k++) entries += sum_at(first, n, second, m, k) != 0;
+    if (room < 8 * entries) { c.number = 53; return c; }
+    for (u32 k = 0; k < end; k++) {
+        u32 sum = sum_at(first, n, second, m, k);
+        if (sum) { write4(list, k); write4(list + 4, sum); list += 8; }
+    }
+    c.entries = entries;
+    return c;
 }

@@ -1,4 +1,4 @@
-/* The four calls in plain C, and their answers. */
+/* The five calls in plain C, and their answers. */
 typedef unsigned char u8;
 typedef unsigned short u16;
 typedef unsigned int u32;
@@ -9,6 +9,8 @@ typedef long long i64;
 struct translated { u8 number; u32 line, length; };
 
 struct listed { u8 number; u32 length; };
+
+struct compared { u8 number; u32 entries; };
 
 /* A return place: the mark is 1 where the call of a handler kept it, with that handler's target. */
 struct place { u16 cell, target; u8 mark; };
@@ -29,4 +31,5 @@ struct ran { u8 number; u32 index; u8 reason; u32 turns, records; struct state s
 struct translated translate(const u8 *text, u32 size, u8 *image, u32 room);
 u8 check(const u8 *image, u32 size);
 struct listed list(const u8 *image, u32 size, u8 *text, u32 room);
+struct compared compare(const u8 *first, u32 first_bytes, const u8 *second, u32 second_bytes, u8 *list, u32 room);
 struct ran run(const u8 *image, u32 size, const u8 *events, u32 event_bytes, u32 budget, u8 *records, u32 room);

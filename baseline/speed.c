@@ -1,11 +1,12 @@
 /* Repeats one of the calls and prints a checksum, or the number of a refusal: the same work, and the same line, as the program `speed`. */
 #include "bench.h"
 
-enum { TEXT = 16384, LISTING = 9472, TURNS = 4096, EVENT = 12, BLOCKS = 32, CELL_LINE = 37, NAME_LINE = 36 };
+enum { TEXT = 16384, LISTING = 9472, TURNS = 4096, RECORDS = 8192, EVENT = 12, ENTRY = 8, BLOCKS = 32, CELL_LINE = 37, NAME_LINE = 36 };
 
 long write(int file, const void *bytes, unsigned long count);
 
 static u8 text[TEXT], image[5008], listing[LISTING], events[EVENT * TURNS], records[EVENT * TURNS];
+static u8 first[EVENT * RECORDS], second[EVENT * RECORDS], entries[ENTRY * RECORDS];
 
 /* A line of this width: a statement with one name in it, and a comment. From E on no second character makes a word of the drives. */
 static u8 *put_line(u8 *at, const char *before, char letter, u32 number, const char *after, u32 width) {
@@ -67,6 +68,17 @@ static void put_event(u8 *at, u32 k) {
     at[1] = k / 256;
     at[4] = kind;
     at[5] = kind == 1 ? 1 + k % 4 : 0;
+    at[8] = value % 256;
+    at[9] = value / 256;
+}
+
+/* Record k of one of two runs; the second has another turn, kind, number or value in five of eight. */
+static void put_record(u8 *at, u32 k, u32 other) {
+    u32 turn = k + (other && k % 8 == 1), value = 3 * k + (other && k % 4 == 0);
+    at[0] = turn % 256;
+    at[1] = turn / 256;
+    at[4] = 1 + k % 6 + (other && k % 8 == 2);
+    at[5] = k % 4 + (other && k % 8 == 3);
     at[8] = value % 256;
     at[9] = value / 256;
 }
@@ -139,6 +151,17 @@ static u64 run_times(u32 n, u32 length, u32 event_bytes) {
     return mixed_bytes(sum, records, sizeof records);
 }
 
+static u64 compare_times(u32 n) {
+    u64 sum = 1;
+    for (u32 k = 0; k < RECORDS; k++) put_record(first + EVENT * k, k, 0), put_record(second + EVENT * k, k, 1);
+    while (n--) {
+        struct compared c = compare(first, sizeof first, second, sizeof second, entries, sizeof entries);
+        if (c.number) return refused(c.number);
+        sum = mixed(mixed(sum, c.number), c.entries);
+    }
+    return mixed_bytes(sum, entries, sizeof entries);
+}
+
 static int same(const char *a, const char *b) {
     while (*a && *a == *b) a++, b++;
     return *a == *b;
@@ -155,7 +178,7 @@ static u64 on_image(const char *call, u32 n) {
 }
 
 int main(int count, char **words) {
-    static const char usage[] = "usage: speed translate|half|quarter|check|list|run|calls N\n";
+    static const char usage[] = "usage: speed translate|half|quarter|check|list|run|calls|compare N\n";
     char line[24];
     u32 n = 0, at = sizeof line;
     u64 sum;
@@ -169,6 +192,7 @@ int main(int count, char **words) {
     if (good && same(words[1], "translate")) sum = translate_times(n, put_late(BLOCKS));
     else if (good && same(words[1], "half")) sum = translate_times(n, put_late(BLOCKS / 2));
     else if (good && same(words[1], "quarter")) sum = translate_times(n, put_late(BLOCKS / 4));
+    else if (good && same(words[1], "compare")) sum = compare_times(n);
     else if (good && (same(words[1], "check") || same(words[1], "list") || same(words[1], "run") || same(words[1], "calls")))
         sum = on_image(words[1], n);
     else { write(2, usage, sizeof usage - 1); return 0; }

@@ -234,3 +234,36 @@ pub fn events() -> Events {
     }
     events
 }
+
+// As many records as there may be.
+pub type Records = [u8; RECORDS_SIZE];
+
+const RECORDS_SIZE: usize = events::script::SIZE * comparing::MOST;
+
+// A number below 65,535, or one more.
+fn more_if(test: bool, n: usize) -> usize {
+    if test { n % 65535 + 1 } else { n }
+}
+
+// A byte of a record of one of two runs; the second has another turn, kind, number or value in five records of eight.
+fn record_byte(k: usize, i: usize, other: bool) -> u8 {
+    let turn = more_if(other & (k % 8 == 1), k % comparing::MOST);
+    let value = more_if(other & (k % 4 == 0), k % comparing::MOST * 3);
+    match i {
+        0 => low(turn),
+        1 => high(turn),
+        events::script::KIND => low(more_if(other & (k % 8 == 2), 1 + k % 6)),
+        events::script::NUMBER => low(more_if(other & (k % 8 == 3), k % 4)),
+        events::script::VALUE => low(value),
+        9 => high(value),
+        _ => 0,
+    }
+}
+
+pub fn records(other: bool) -> Records {
+    let mut records = [0u8; RECORDS_SIZE];
+    for at in 0..RECORDS_SIZE {
+        records[at] = record_byte(at / events::script::SIZE, at % events::script::SIZE, other);
+    }
+    records
+}

@@ -1,6 +1,6 @@
-// Repeats one of the bench's four calls, and writes a checksum of the answers and of the buffer that the call fills or reads. The arguments are
+// Repeats one of the bench's five calls, and writes a checksum of the answers and of the buffer that the call fills or reads. The arguments are
 // what is repeated, and how many times: `translate` takes the largest program with its names declared behind all statements, `half` and
-// `quarter` so much of it; `check`, `list` and `run` take the largest program, and `calls` runs one that calls and returns. A call that is refused
+// `quarter` so much of it; `check`, `list` and `run` take the largest program, `calls` runs one that calls and returns, and `compare` takes as many records as there may be. A call that is refused
 // is the last, and its number is written in place of the sum.
 mod build;
 mod sums;
@@ -37,6 +37,8 @@ const QUARTER: u8 = 6;
 
 const LIST: u8 = 7;
 
+const COMPARE: u8 = 8;
+
 fn task(word: &[u8]) -> u8 {
     if parts::same(word, b"translate") {
         return TRANSLATE;
@@ -58,6 +60,9 @@ fn task(word: &[u8]) -> u8 {
     }
     if parts::same(word, b"calls") {
         return CALLS;
+    }
+    if parts::same(word, b"compare") {
+        return COMPARE;
     }
     NOTHING
 }
@@ -120,6 +125,25 @@ fn runs(times: u64, image: &[u8], events: &[u8]) -> u64 {
     run(times, image, events, &mut records)
 }
 
+fn compare(times: u64, first: &[u8], second: &[u8], list: &mut [u8]) -> u64 {
+    let mut sum = FIRST_SUM;
+    for _ in 0..times {
+        let answer = comparing::compare(first, second, list);
+        if answer.number != 0 {
+            return sums::refused(answer.number);
+        }
+        sum = sums::compared(sum, answer);
+    }
+    sums::bytes(sum, list)
+}
+
+fn on_records(times: u64) -> u64 {
+    let first = build::records(false);
+    let second = build::records(true);
+    let mut list = [0u8; comparing::ENTRY * comparing::MOST];
+    compare(times, &first, &second, &mut list)
+}
+
 // The sum of so many calls on the image of a text, which is made once before.
 fn on_image(task: u8, times: u64, text: &[u8], events: &[u8]) -> u64 {
     let mut room = [0u8; LONGEST_IMAGE];
@@ -169,6 +193,9 @@ fn repeat(task: u8, times: u64) -> u64 {
     if task == CALLS {
         return on_calls(times);
     }
+    if task == COMPARE {
+        return on_records(times);
+    }
     if (task == CHECK) | (task == LIST) | (task == RUN) {
         return on_largest(task, times);
     }
@@ -178,7 +205,7 @@ fn repeat(task: u8, times: u64) -> u64 {
 fn tell_usage() {
     io::write_all(
         STDERR_FILENO,
-        b"usage: speed translate|half|quarter|check|list|run|calls N\n",
+        b"usage: speed translate|half|quarter|check|list|run|calls|compare N\n",
     );
 }
 

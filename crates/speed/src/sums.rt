@@ -5,6 +5,7 @@ use bench::Ran;
 use bench::State;
 use bench::StatePlace;
 use bench::Translated;
+use comparing::Compared;
 
 // Every sum is below this.
 pub const MODULUS: u64 = 4294967291;
@@ -61,6 +62,11 @@ pub fn checked(sum: u64, answer: Checked) -> u64 {
 pub fn listed(start: u64, answer: Listed) -> u64 {
     let sum = mixed(start, answer.number as u64);
     mixed(sum, answer.length as u64)
+}
+
+pub fn compared(start: u64, answer: Compared) -> u64 {
+    let sum = mixed(start, answer.number as u64);
+    mixed(sum, answer.entries as u64)
 }
 
 pub fn ran(start: u64, answer: Ran) -> u64 {
