@@ -17,6 +17,8 @@ pub const ACCEPTED: u8 = b'0';
 
 pub const REFUSED: u8 = b'1';
 
+pub const DIFFERENT: u8 = b'1';
+
 pub const TROUBLE: u8 = b'2';
 
 // Commands on programs, and those that show a page, by their numbers in the table of words.
@@ -30,9 +32,9 @@ pub const LIST: u32 = 4;
 
 pub const RUN: u32 = 5;
 
-pub const WORDS: u32 = 7;
+pub const WORDS: u32 = 8;
 
-pub const VERSION: u32 = 11;
+pub const VERSION: u32 = 12;
 
 // What is wrong with the use of a command.
 pub const NO_COMMAND: u32 = 26;

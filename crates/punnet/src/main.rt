@@ -1,6 +1,7 @@
-// The bench as a tool on files: programs are tried, translated, checked, listed and run. `punnet help` tells how.
+// The bench as a tool on files: programs are tried, translated, checked, listed and run, and runs compared. `punnet help` tells how.
 mod arguments;
 mod commands;
+mod comparisons;
 mod files;
 mod given;
 mod images;
@@ -16,6 +17,7 @@ use arguments::FORCE;
 use arguments::LONG_HELP;
 use arguments::NO_OPTION;
 use arguments::SHORT_HELP;
+use arguments::TEXTS;
 use commands::CHECK;
 use commands::LIST;
 use commands::RUN;
@@ -28,6 +30,15 @@ use commands::WORDS;
 pub struct Contents {
     pub length: usize,
     pub status: u8,
+}
+
+// How a text was run: the status, which says whether it was; the length of its image, how many records it made, and how it ended.
+pub struct Recorded {
+    pub status: u8,
+    pub image: usize,
+    pub records: usize,
+    pub reason: u8,
+    pub turns: u64,
 }
 
 // A file that is being written: the length of its name, and its descriptor.
@@ -53,7 +64,9 @@ const STATUS: i32 = 9;
 // Other commands, by their numbers in the table of words.
 const EVENTS: u32 = 6;
 
-const HELP: u32 = 8;
+const COMPARE: u32 = 7;
+
+const HELP: u32 = 9;
 
 // Whether a command takes so many arguments, with the program's name and its own among them.
 fn takes(command: u32, count: usize) -> bool {
@@ -64,6 +77,8 @@ fn takes(command: u32, count: usize) -> bool {
         LIST => (3 <= count) & (count <= 4),
         RUN => (5 <= count) & (count <= 6),
         EVENTS => count == 4,
+        COMPARE => (4 <= count) & (count <= 5),
+        TEXTS => (5 <= count) & (count <= 6),
         WORDS => count == 2,
         VERSION => count == 2,
         _ => count <= 3,
@@ -72,7 +87,11 @@ fn takes(command: u32, count: usize) -> bool {
 
 // Whether a command may write over a file.
 fn is_writing(command: u32) -> bool {
-    (command == TRANSLATE) | (command == LIST) | (command == RUN) | (command == EVENTS)
+    (command == TRANSLATE)
+        | (command == LIST)
+        | (command == RUN)
+        | (command == EVENTS)
+        | (command == COMPARE)
 }
 
 // Does what a command says with its arguments.
@@ -84,11 +103,13 @@ fn work(command: u32, force: bool, a: &[u8], b: &[u8], c: &[u8], d: &[u8]) -> u8
         LIST => programs::make_file(command, a, b, outputs::TEXT, force),
         RUN => runs::run_command(command, a, b, c, d, force),
         EVENTS => scripted::events_command(a, b, force),
+        COMPARE => comparisons::compare_command(a, b, c, force),
+        TEXTS => comparisons::texts_command(a, b, c, d),
         _ => commands::show(command, a),
     }
 }
 
-// Reads the arguments of a command, the first of them behind its `-f`.
+// Reads the arguments of a command, the first of them behind its `-f` or `--texts`.
 fn with_arguments(command: u32, force: bool) -> u8 {
     let mut first = io::buffer();
     let mut second = io::buffer();
@@ -116,11 +137,23 @@ fn with_option(command: u32, name: &[u8], count: usize, option: u32) -> u8 {
     if option == NO_OPTION {
         return files::complain(name, NO_OPTION);
     }
-    let force = (option == FORCE) & is_writing(command);
-    if !takes(command, one_less_if(force, count)) {
+    if (option == TEXTS) & (command == COMPARE) {
+        return with_count(TEXTS, name, count, true);
+    }
+    with_count(
+        command,
+        name,
+        count,
+        (option == FORCE) & is_writing(command),
+    )
+}
+
+// The same, where that is so many as it takes, an option behind it or not.
+fn with_count(command: u32, name: &[u8], count: usize, option: bool) -> u8 {
+    if !takes(command, one_less_if(option, count)) {
         return files::complain(name, command);
     }
-    with_arguments(command, force)
+    with_arguments(command, option)
 }
 
 fn one_less_if(test: bool, count: usize) -> usize {
@@ -132,7 +165,7 @@ fn one_less_if(test: bool, count: usize) -> usize {
 
 fn command(name: &[u8], count: usize) -> u8 {
     let command = words::number_for(words::COMMAND, name);
-    if (command == 0) | (command == FORCE) {
+    if (command == 0) | (command == FORCE) | (command == TEXTS) {
         return files::complain(name, commands::NO_COMMAND);
     }
     with_option(command, name, count, arguments::option())

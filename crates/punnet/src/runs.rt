@@ -13,7 +13,7 @@ use telling::refusals;
 use telling::trace;
 
 // The records of a run, at the front of a buffer.
-fn of_records<'a>(buffer: &'a Buffer, count: usize) -> &'a [u8] {
+pub fn of_records<'a>(buffer: &'a Buffer, count: usize) -> &'a [u8] {
     if events::Event::MOST < count {
         return parts::front(buffer, 0);
     }
@@ -39,16 +39,25 @@ pub fn run_command(
     force: bool,
 ) -> u8 {
     let turns = given::turns(word);
+    let status = turns_status(word, turns);
+    if status != ACCEPTED {
+        return status;
+    }
+    if !outputs::may_replace(to, outputs::RECORDS, force, path, events) {
+        return TROUBLE;
+    }
+    programs::work_on(command, path, events, turns, to)
+}
+
+// Whether a word gives so many turns, and not too many; else it is told.
+pub fn turns_status(word: &[u8], turns: u64) -> u8 {
     if turns == given::NO_NUMBER {
         return files::complain(word, commands::NO_TURNS);
     }
     if given::MOST_TURNS < turns {
         return commands::refuse(word, refusals::of_turns());
     }
-    if !outputs::may_replace(to, outputs::RECORDS, force, path, events) {
-        return TROUBLE;
-    }
-    programs::work_on(command, path, events, turns, to)
+    ACCEPTED
 }
 
 // Reads the events, and runs the program on them.

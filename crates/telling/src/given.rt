@@ -17,7 +17,7 @@ const FAR_PLACE: u32 = 46;
 
 const NO_KIND: u32 = 47;
 
-const NOT_ZERO: u32 = 48;
+pub const NOT_ZERO: u32 = 48;
 
 // No event has this number.
 pub const NO_EVENTS: usize = usize::MAX;
@@ -30,6 +30,11 @@ const ENTRIES: u32 = 50;
 const EMPTY: u32 = 51;
 
 pub const EDITION: u32 = 52;
+
+// What is wrong with records, beside zeros that are not 0.
+const MANY_RECORDS: u32 = 57;
+
+const PART_OF_A_RECORD: u32 = 58;
 
 // The refusal of an image of another edition.
 const OTHER_EDITION: u8 = 22;
@@ -112,6 +117,31 @@ pub fn are_entries(bytes: &[u8]) -> bool {
         }
     }
     true
+}
+
+// The number of the first record whose zeros are not 0; how many there are where all are.
+pub fn first_bad_record(bytes: &[u8]) -> usize {
+    let count = events::script::event_count(bytes);
+    for k in 0..count {
+        if entry(bytes, k).zeros != 0 {
+            return k;
+        }
+    }
+    count
+}
+
+// What is wrong with bytes that are no records.
+pub fn instead_of_records(bytes: &[u8]) -> u32 {
+    if comparing::MOST < events::script::event_count(bytes) {
+        return MANY_RECORDS;
+    }
+    if !scripts::is_bytes(bytes) {
+        return TEXT;
+    }
+    if bytes.len() % events::script::SIZE != 0 {
+        return PART_OF_A_RECORD;
+    }
+    NOT_ZERO
 }
 
 // What was given in place of an image, with this refusal.

@@ -65,7 +65,8 @@ const HIGHEST: u64 = Variable::HIGHEST_LITERAL as u64;
 
 // Whether a hint begins with the name that it is about.
 pub fn begins_with_name(number: u32) -> bool {
-    (IS_VARIABLE <= number) & (number <= READ_ONLY) | (IS_MNEMONIC <= number)
+    (IS_VARIABLE <= number) & (number <= READ_ONLY)
+        | (IS_MNEMONIC <= number) & (number <= NEVER_DECLARED)
 }
 
 // What is wrong at a place of a line, and the name that it is about, or 0. No place is far behind the longest line.

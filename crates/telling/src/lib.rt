@@ -1,4 +1,5 @@
 // What the tool says, put into lines: words, and bytes of files as people can read them.
+pub mod differences;
 pub mod given;
 mod hints;
 mod marks;
@@ -17,6 +18,12 @@ pub struct Mark {
     pub event: usize,
     pub record: usize,
     pub line: Line,
+}
+
+// What is listed where two runs are compared.
+pub struct Entry {
+    pub number: usize,
+    pub sum: u32,
 }
 
 // The column of what is wrong, from 1; the number of its words, 0 where there are none; and the key of the name that they speak of, or the
@@ -158,6 +165,14 @@ fn explained(mut line: Line, kind: u8, number: u32) -> Line {
     line = line.end().spaces(4);
     line = part(line, words::HANDLER);
     line.end()
+}
+
+// A line with spaces behind it, up to a column.
+fn filled(line: Line, column: usize) -> Line {
+    if line.held < column {
+        return line.spaces(column - line.held);
+    }
+    line
 }
 
 // One more and one less, as far as turns, events, records and lines go.

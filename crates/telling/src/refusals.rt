@@ -119,6 +119,17 @@ pub fn of_image(image: &[u8], number: u8) -> Line {
     hinted(of_whole(number), hint)
 }
 
+// A refusal of records, and what is wrong with them; with the number of the record where it is its zeros.
+pub fn of_records(file: &[u8], number: u8) -> Line {
+    let fault = given::instead_of_records(file);
+    let mut told = nowhere();
+    if fault == given::NOT_ZERO {
+        told = crate::part_number(told, words::RECORD, given::first_bad_record(file) as u64);
+        told = crate::part(told, words::COLON);
+    }
+    hinted(refusal(told, number), hints::at(0, fault, 0))
+}
+
 // A refusal of events that a file gives, as bytes or as a script: the fault of a line, if there is one; of them all; or of one. Nothing where
 // a run takes them.
 pub fn of_events(file: &[u8], events: &[u8], line: usize, fault: u8) -> Line {

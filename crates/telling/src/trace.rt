@@ -57,10 +57,10 @@ fn line_of(visits: &[u8], cell: usize) -> usize {
     listed(visits, LINES + cell)
 }
 
-// A record or an event by its number; none has a number above the most.
+// A record or an event by its number; none has a number above the most records.
 pub fn entry(bytes: &[u8], k: usize) -> Event {
-    if Event::MOST < k {
-        return events::script::event_at(bytes, Event::MOST);
+    if comparing::MOST < k {
+        return events::script::event_at(bytes, comparing::MOST);
     }
     events::script::event_at(bytes, k)
 }
@@ -134,21 +134,43 @@ fn source(mut line: Line, image: &[u8], kind: u8, number: u8) -> Line {
         return line;
     }
     if kind == Record::PRINTED {
-        line = crate::key(line, printing::variable_key(image, number));
+        line = variable(line, printing::variable_key(image, number), number);
         return crate::part(line, words::EQUALS);
     }
     line = line.number(number as u64);
     crate::part(line, words::EQUALS)
 }
 
-// A record in words: an error, or its kind, what it is of, and its value.
-fn record_in_words(mut line: Line, image: &[u8], record: Event) -> Line {
+// A variable by the key of its name; one that has none, by its number.
+fn variable(line: Line, key: u16, number: u8) -> Line {
+    if key == 0 {
+        return crate::part_number(line, words::VARIABLE, number as u64);
+    }
+    crate::key(line, key)
+}
+
+// The kind of a record; one that no record of a run has, by its number.
+fn kind(mut line: Line, kind: u8) -> Line {
+    if (kind < Record::OUTPUT) | (Record::FAILED < kind) {
+        line = crate::part_number(line, words::KIND, kind as u64);
+        return line.byte(b' ');
+    }
+    crate::meaning(line, words::KIND_OF_RECORD, kind as u32)
+}
+
+// A record in short: its kind, what it is of, and its value.
+pub fn short(mut line: Line, image: &[u8], record: Event) -> Line {
+    line = kind(line, record.kind);
+    line = source(line, image, record.kind, record.number);
+    line.signed(record.value)
+}
+
+// A record in words: an error with its meaning, or any other in short.
+fn record_in_words(line: Line, image: &[u8], record: Event) -> Line {
     if record.kind == Record::FAILED {
         return crate::words(line, words::ERROR, numbers::digits(record.value));
     }
-    line = crate::meaning(line, words::KIND_OF_RECORD, record.kind as u32);
-    line = source(line, image, record.kind, record.number);
-    line.signed(record.value)
+    short(line, image, record)
 }
 
 // The statement of a turn or of a stay at a line of a text, with its turns and the line's number.
@@ -163,9 +185,7 @@ fn row(text: &[u8], number: usize, turn: usize, end: usize) -> Line {
 
 // What a turn recorded, in its column.
 fn recorded(mut line: Line, image: &[u8], record: Event) -> Line {
-    if line.held < RECORD_COLUMN {
-        line = line.spaces(RECORD_COLUMN - line.held);
-    }
+    line = crate::filled(line, RECORD_COLUMN);
     line = line.spaces(GAP);
     record_in_words(line, image, record)
 }

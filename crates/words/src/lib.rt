@@ -25,6 +25,8 @@ pub const PART: u8 = b'a';
 
 pub const SAMPLE: u8 = b'u';
 
+pub const DIFFERENCE: u8 = b'h';
+
 // The parts of what the tool says, by their numbers.
 pub const PUNNET: u32 = 1;
 
@@ -78,23 +80,39 @@ pub const AFTER_ERROR: u32 = 25;
 
 pub const HANDLER: u32 = 26;
 
+pub const COMPARED: u32 = 27;
+
+pub const KIND: u32 = 28;
+
+pub const VARIABLE: u32 = 29;
+
+pub const AND: u32 = 30;
+
+pub const DIFFERENT: u32 = 31;
+
+pub const EQUAL: u32 = 32;
+
+pub const RECORD: u32 = 33;
+
+pub const TURNS_TAKEN: u32 = 34;
+
 // The last command that the text on the tool's use tells of.
-pub const LAST_COMMAND: u32 = 8;
+pub const LAST_COMMAND: u32 = 9;
 
 // No line that is sought by its meaning has this number or a higher one.
 const MOST_SOUGHT: u32 = 16;
 
 // The table stands in five pieces, since a long one is dear to prove: lines for the tool, numbers of answers, hints, wrong uses, and the text
 // on the tool's use, which is no part of the lines. What is sought most often stands first.
-const TOOL_SIZE: usize = 2317;
+const TOOL_SIZE: usize = 2878;
 
-const ANSWER_SIZE: usize = 1604;
+const ANSWER_SIZE: usize = 1823;
 
-const HINT_SIZE: usize = 2568;
+const HINT_SIZE: usize = 2637;
 
-const USE_SIZE: usize = 1247;
+const USE_SIZE: usize = 1399;
 
-const HELP_SIZE: usize = 1819;
+const HELP_SIZE: usize = 2082;
 
 // Where the first line for people begins, the text on the tool's use, and in it what it says on the first command; and the bytes of all.
 pub const FIRST_FOR_PEOPLE: usize = TOOL_SIZE;
@@ -106,9 +124,9 @@ const FIRST_COMMAND: usize = HELP + 68;
 pub const SIZE: usize = HELP + HELP_SIZE;
 
 // The number of lines, and the bytes of the longest with its end.
-const LINE_COUNT: usize = 188;
+const LINE_COUNT: usize = 216;
 
-pub const LONGEST: usize = 76;
+pub const LONGEST: usize = 93;
 
 // The byte of the digit 0 is a multiple of this.
 const DIGITS_FROM: u8 = 16;
@@ -121,6 +139,7 @@ item 2: move to
 item 3: move by 
 item 4: slew at 
 item 5: print 
+item 6: error 
 axis 0: , still
 axis 1: , moving to 
 axis 2: , slewing at 
@@ -150,18 +169,34 @@ part 23:  lines are faulty, the first 10 are shown
 part 24: punnet 1.0, for images of edition 1
 part 25: ER is the number, EF is 1; reading ER clears EF, ER=0 clears both
 part 26: an armed handler is called; its RT arms it again unless an OE ran
+part 27:  record   turn  first                    turn  second                  what differs
+part 28: kind 
+part 29: variable 
+part 30:  and 
+part 31: , different: 
+part 32: , all equal
+part 33: record 
+part 34: , turns: 
+what 1: turn
+what 2: kind
+what 4: number
+what 8: value
+what 16: first only
+what 32: second only
 command 1: try
 command 2: translate
 command 3: check
 command 4: list
 command 5: run
 command 6: events
-command 7: words
-command 8: help
-command 9: -h
-command 10: --help
-command 11: --version
-command 12: -f
+command 7: compare
+command 8: words
+command 9: help
+command 10: -h
+command 11: --help
+command 12: --version
+command 13: -f
+command 14: --texts
 such 1: a text of 16,385 bytes
 such 2: a line of 65 characters, its comment among them
 such 3: MA 5,1
@@ -182,6 +217,9 @@ such 32: a file of 13 bytes
 such 33: 5 input 5 1, as there are four inputs
 such 34: punnet run feeder.image - 4097
 such 35: a buffer of 11 bytes for one turn; the tool's is long enough
+such 51: a file of 13 bytes, or a text in place of records
+such 52: a file of 13 bytes, or a text in place of records
+such 53: a buffer of 7 bytes for one entry; the tool's is long enough
 such 101: IC R1, and R1 is 2147483647
 such 102: R1=5/R2, and R2 is 0
 such 103: O1=2, as an output is 0 or 1
@@ -211,6 +249,9 @@ refusal 32: events that are not 12 bytes each, or more than 4,096
 refusal 33: a bad event, or a turn below that of the event before
 refusal 34: more than 4,096 turns
 refusal 35: the record buffer has fewer than 12 bytes for each turn
+refusal 51: the first has over 8,192 records, a part of one, or zeros not 0
+refusal 52: the second has over 8,192 records, a part of one, or zeros not 0
+refusal 53: the list of what differs does not fit into its buffer
 error 101: the result is above 2,147,483,647
 error 102: division by zero
 error 103: the value is outside the range of the variable, of H or of SL
@@ -279,6 +320,8 @@ hint 53: is a mnemonic of the language
 hint 54: is a variable of the language
 hint 55: is a word of the drives; they would take it for their own
 hint 56: is a word of the drives; no line may declare it
+hint 57: more than 8,192 records
+hint 58: records have 12 bytes each
 ";
 
 const USES: [u8; USE_SIZE] =
@@ -290,11 +333,13 @@ usage 3: wants IMAGE
 usage 4: wants [-f] IMAGE [TEXT]
 usage 5: wants [-f] IMAGE EVENTS TURNS [RECORDS]
 usage 6: wants [-f] SCRIPT EVENTS
-usage 7: wants nothing
-usage 8: wants [COMMAND or NUMBER]
+usage 7: wants [-f] FIRST SECOND [LIST]
+usage 8: wants nothing
 usage 9: wants [COMMAND or NUMBER]
 usage 10: wants [COMMAND or NUMBER]
-usage 11: wants nothing
+usage 11: wants [COMMAND or NUMBER]
+usage 12: wants nothing
+usage 14: wants --texts OLD NEW EVENTS [TURNS]
 usage 21: the file that is read; give another name to write to
 usage 22: not a plain file, and so not written
 usage 23: holds something else than an image; -f writes over it
@@ -308,6 +353,7 @@ usage 30: left from a write that did not end; look at it, then remove it
 usage 31: no command and no number; see punnet help and punnet words
 usage 32: written, but what is told of it is not
 usage 33: is there already and is left alone; -f writes over it
+usage 34: is standard input for both; name one of the two files
 ";
 
 const HELP_TEXT: [u8; HELP_SIZE] =
@@ -331,6 +377,9 @@ const HELP_TEXT: [u8; HELP_SIZE] =
   punnet events [-f] SCRIPT EVENTS
       write the events of a script in 12 bytes each
       example: punnet events feeder.events feeder.bytes
+  punnet compare [-f] FIRST SECOND [LIST], or --texts OLD NEW EVENTS [TURNS]
+      tell what differs between two files of records, or two texts' runs
+      example: punnet compare --texts feeder.mc retuned.mc feeder.events
   punnet words
       list every number that an answer can have, with its words
       example: punnet words
@@ -343,11 +392,12 @@ A script has an event on each line; ' starts a comment:
       5 input 2 1        in turn 5 input 2 becomes 1
       7 position -100    in turn 7 the position becomes -100
 EVENTS is a script or its bytes, or - for no event. TURNS is 0 to 4096;
-try takes 4096 where none is given. Turns count from 0.
-TEXT, IMAGE and SCRIPT may be - for standard input, and a file that is
+try and compare take 4096 where none is given. Turns count from 0.
+A file that is read may be - for standard input, and one that is
 written - for standard output. A file that holds something else than
-what is written is replaced only with -f, and so is any file by list.
-The status is 0 accepted or run, 1 refused, 2 usage or file trouble.
+what is written is replaced only with -f; list and compare replace any
+file only so. The status is 0 accepted, run or equal, 1 refused or
+different, 2 usage or file trouble.
 ";
 
 // The byte of the text on the tool's use at a place; an end of line past the text.

@@ -9,7 +9,7 @@ abbrev Inv-loop : tie.InvT-loop
 Inv-loop line₀ start i₀ line i = Unit {0}
 
 abbrev μ-loop : tie.MeasureT-loop
-μ-loop line₀ start i₀ line i = 76 - i
+μ-loop line₀ start i₀ line i = 93 - i
 
 pub line-of-words-spec : {M : Type 1} → statement M
 line-of-words-spec =
