@@ -1,11 +1,10 @@
 -- The cases of comparing: the first buffer refused, the second, the list too short, and accepted; and back from the answer's number.
 -- Assumes nothing.
-use mathlib.Core.Path.{_≡_, refl, sym, ap, _∙_}
+use mathlib.Core.Path.{_≡_, sym, ap, _∙_}
 use mathlib.Core.Bool.{true, false}
 use mathlib.Core.List.{List, _++_}
 use Prim.Native.Nat.{ℕ, _*_, _≤_, _<_}
 use borrow.Author.Tests.{lt-ltb, le-ltb, ltb-false, eq-eqb, ne-eqb}
-use lib.Dec.{eqb}
 use lib.ListN.{length, drop}
 use Rattle.numbers.specs.Tests.{lowest, NoRow}
 use Rattle.numbers.proofs.Lowest.{lowest-zero}

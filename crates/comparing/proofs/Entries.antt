@@ -109,7 +109,7 @@ module _ (first second : List ℕ) where
   unfolding differing
   rest-all {end} e = rw (sub-zero end, e) refl
 
-  pub rest-none : (end k : ℕ) → end ≤ k → rest end k ≡ []
+  rest-none : (end k : ℕ) → end ≤ k → rest end k ≡ []
   unfolding passing
   rest-none end k h = let e : end - k ≡ 0 = omega arith in rw e
 
@@ -137,7 +137,7 @@ module _ (first second : List ℕ) where
   unfolding differences
   left-all e = ap (flatMap (entryOf first second)) (rest-all e)
 
-  pub left-none : (end k : ℕ) → end ≤ k → left end k ≡ []
+  left-none : (end k : ℕ) → end ≤ k → left end k ≡ []
   unfolding flatMap
   left-none end k h = rw (rest-none end k h)
 

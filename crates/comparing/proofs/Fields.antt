@@ -1,25 +1,23 @@
 -- The fields of two records, as numbers and as bytes: the sum tells which differ.
 -- Assumes nothing.
-use mathlib.Core.Path.{_≡_, refl, sym, ap, ap₂, _∙_}
-use mathlib.Core.Bool.{Bool, true, false, true≢false, _||_, not}
+use mathlib.Core.Path.{_≡_, refl, sym, ap, _∙_}
+use mathlib.Core.Bool.{Bool, true, false, true≢false}
 use mathlib.Core.List.{List, _++_}
 use mathlib.Core.Logic.{_↔_}
-use Prim.Native.Nat.{ℕ, _+_, _*_, _-_, _/_, _%_, _≤_, _<_}
+use Prim.Native.Nat.{ℕ, _+_, _*_, _-_, _/_, _%_, _≤_}
 use native.Mathlib.Omega.{arith}
-use borrow.Author.Tests.{eq-eqb, eqb-true, ltb-false, not-false}
-use lib.Dec.{eqb, ltb}
+use borrow.Author.Tests.{eq-eqb, eqb-true}
+use lib.Dec.{eqb}
 use lib.IntN.{ℤ, pos, negsuc}
 use lib.ListN.{length, take, drop, length-drop}
 use lib.Seq.{take-add, take-all, take-take, drop-drop, drop-at, length-take-le}
 use Rattle.numbers.specs.Bits.{digits32, signed32}
-use Rattle.numbers.specs.Bytes.{Bytes, bytes, number, field}
-use Rattle.numbers.specs.Tests.{eqZ, anyBelow}
-use Rattle.numbers.proofs.Laws.{bytes-field, field-below, digits-signed}
-use Rattle.numbers.proofs.Truth.{neither}
-use Rattle.numbers.proofs.Tests.{none-below}
-use Rattle.events.specs.Events.{eventAt, eventCount}
+use Rattle.numbers.specs.Bytes.{Bytes, number, field}
+use Rattle.numbers.specs.Tests.{eqZ}
+use Rattle.numbers.proofs.Laws.{same-field-bytes, field-below, digits-signed}
+use Rattle.events.specs.Events.{eventAt}
 use Rattle.events.specs.declared.Event.{Event}
-use Rattle.comparing.specs.Differences.{badRecord, badBuffer, weight, fieldSum}
+use Rattle.comparing.specs.Differences.{weight, fieldSum}
 use Rattle.comparing.specs.Requests.{recordOf, part, PartDiffers}
 
 -- ---- the digits of a sum
@@ -39,7 +37,7 @@ digits-back : (p q r s : ℕ) → p ≤ 1 → q ≤ 1 → r ≤ 1 → s ≤ 1 �
 digits-back p q r s hp hq hr hs n e = (omega arith, omega arith, omega arith, omega arith)
 
 module _ (a b : Event) where
-  pub sum-digits : (fieldSum a b % 2 ≡ weight (eqb (a .turn) (b .turn)) 1) × (fieldSum a b / 2 % 2 ≡ weight (eqb (a .kind) (b .kind)) 1)
+  sum-digits : (fieldSum a b % 2 ≡ weight (eqb (a .turn) (b .turn)) 1) × (fieldSum a b / 2 % 2 ≡ weight (eqb (a .kind) (b .kind)) 1)
       × (fieldSum a b / 4 % 2 ≡ weight (eqb (a .number) (b .number)) 1) × (fieldSum a b / 8 % 2 ≡ weight (eqZ (a .value) (b .value)) 1)
   unfolding fieldSum
   sum-digits =
@@ -50,7 +48,7 @@ module _ (a b : Event) where
 
 -- A digit is 1 exactly if what its test says is not so; 0 where it is.
 module _ (t : Bool) (P : Type 0) (yes : t ≡ true → P) (no : P → t ≡ true) where
-  pub digit-tells : {n : ℕ} → n ≡ weight t 1 → (n ≡ 1) ↔ (P → ⊥)
+  digit-tells : {n : ℕ} → n ≡ weight t 1 → (n ≡ 1) ↔ (P → ⊥)
   unfolding weight
   digit-tells {n} e = (one t refl, other t refl) where
     one : (u : Bool) → t ≡ u → n ≡ 1 → P → ⊥
@@ -61,7 +59,7 @@ module _ (t : Bool) (P : Type 0) (yes : t ≡ true → P) (no : P → t ≡ true
     other true s z = absurd (z (yes s))
     other false s z = e ∙ rw s refl
 
-  pub digit-none : {n : ℕ} → n ≡ weight t 1 → n ≡ 0 → P
+  digit-none : {n : ℕ} → n ≡ weight t 1 → n ≡ 0 → P
   unfolding weight
   digit-none {n} e z = yes (held t refl) where
     held : (u : Bool) → t ≡ u → t ≡ true
@@ -111,11 +109,7 @@ module _ (first second : List ℕ) (k : ℕ) (hf : 12 * k + 12 ≤ length first)
     -- It is the same number exactly if its bytes are the same.
     same-bytes : Bytes first → Bytes second → field w at first ≡ field w at second → part w from first k ≡ part w from second k
     same-bytes bf bs z =
-        part-bytes first hf
-        ∙ sym (bytes-field w at first bf (omega arith))
-        ∙ ap (bytes w) z
-        ∙ bytes-field w at second bs (omega arith)
-        ∙ sym (part-bytes second hs)
+        part-bytes first hf ∙ same-field-bytes w at first second bf bs (omega arith) (omega arith) z ∙ sym (part-bytes second hs)
 
     same-field : part w from first k ≡ part w from second k → field w at first ≡ field w at second
     unfolding field

@@ -1,16 +1,14 @@
 -- What is listed of two good buffers: which numbers, what their sums tell, nothing exactly if the buffers are equal; and the other way round.
 -- Assumes nothing.
 use mathlib.Core.Path.{_≡_, refl, sym, ap, _∙_}
-use mathlib.Core.Bool.{Bool, true, false, true≢false}
-use mathlib.Core.List.{List, [], _∷_}
+use mathlib.Core.Bool.{true, false, true≢false}
+use mathlib.Core.List.{List, []}
 use mathlib.Core.Logic.{_↔_}
 use Prim.Native.Nat.{ℕ, _+_, _*_, _/_, _%_, _≤_, _<_, max}
-use native.Mathlib.Nat.{div-add-mod'}
 use native.Mathlib.Omega.{arith}
 use lib.ListN.{length, getD, take, drop, drop-of-length-le}
 use lib.Seq.{ext-getD, getD-take, getD-drop}
-use Rattle.numbers.specs.Bytes.{Bytes, field}
-use Rattle.numbers.specs.Tests.{passing}
+use Rattle.numbers.specs.Bytes.{Bytes}
 use Rattle.numbers.proofs.Truth.{if-below, if-same}
 use Rattle.numbers.proofs.Passing.{passing-found, passing-none, passing-same}
 use Rattle.events.specs.Events.{eventAt, eventCount}
@@ -30,11 +28,6 @@ has g k h = omega (arith, g .whole)
 
 none-there : {s : List ℕ} → Good s → (k : ℕ) → eventCount s ≤ k → recordOf s k ≡ []
 none-there {s} g k h = ap (take 12) (drop-of-length-le s {i = 12 * k} (omega (arith, g .whole)))
-
--- A list has no entry exactly if it is empty.
-no-entry : (l : List ℕ) → length l ≡ 0 → l ≡ []
-no-entry [] e = refl
-no-entry (x ∷ l) e = absurd (omega arith)
 
 module _ (first second : List ℕ) (f : Good first) (s : Good second) where
   abbrev top : ℕ

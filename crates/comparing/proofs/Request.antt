@@ -16,7 +16,7 @@ use Rattle.numbers.proofs.Truth.{if-same}
 use Rattle.events.specs.Events.{eventCount}
 use Rattle.comparing.specs.Differences.{badBuffer, sumAt, differsAt, differing, differences}
 use Rattle.comparing.specs.Calls.{compareFaults, compareNumber, compareAnswered, comparedAs, comparedInto, Compares}
-use Rattle.comparing.specs.Requests.{Comparison, Compare, entryNumber, entrySum, Tells, CompareRefused, CompareListed, exchanged, Request4, ourCompare}
+use Rattle.comparing.specs.Requests.{Compare, entryNumber, entrySum, CompareRefused, CompareListed, exchanged, Request4, ourCompare}
 use Rattle.comparing.specs.declared.Compared.{Compared}
 use Rattle.comparing.proofs.Sums.{sum-turned}
 use Rattle.comparing.proofs.Buffers.{Good, good}
@@ -28,6 +28,11 @@ use Rattle.comparing.proofs.Listed.{listed-exactly, sum-tells, equal-bu
 pub compares-one : (first second before : List ℕ) (a b : Compared) (after later : List ℕ)
     → Compares first second before a after → Compares first second before b later → (a ≡ b) × (after ≡ later)
 compares-one first second before a b after later c d = (c .answers ∙ sym (d .answers), c .leaves ∙ sym (d .leaves))
+
+-- The promise of the call (Calls.antt) says exactly that it is this function.
+pub compares-ours : (first second before : List ℕ) (a : Compared) (after : List ℕ)
+    → Compares first second before a after ↔ ((a ≡ ourCompare first second before .answer) × (after ≡ ourCompare first second before .list))
+compares-ours first second before a after = (λ c. (c .answers, c .leaves), λ e. record { answers = e .0; leaves = e .1 })
 
 module _ (first second old : List ℕ) where
   -- Q-4 5: each number exactly.
@@ -46,21 +51,21 @@ module _ (first second old : List ℕ) where
     number : compareNumber first second (length old) ≡ 0
     number = sym (answer-number first second (length old)) ∙ zero-number
 
-    pub given : ourCompare first second old
+    given : ourCompare first second old
         ≡ record { answer = compareAnswered 0 (length (differing first second)); list = differences first second ++ drop (length (differences first second)) old }
     given =
         ap₂ (λ (a : Compared) (l : List ℕ). record { answer = a; list = l }) (accepted-answer first second (length old) number) (accepted-list first second old number)
 
-    pub first-good : Good first
+    first-good : Good first
     first-good = good first (accepted first second (length old) number .0)
 
-    pub second-good : Good second
+    second-good : Good second
     second-good = good second (accepted first second (length old) number .1)
 
-    pub most : max (eventCount first) (eventCount second) ≤ 8192
+    most : max (eventCount first) (eventCount second) ≤ 8192
     most = omega (arith, first-good .most, second-good .most)
 
-    pub entries-room : 8 * length (differing first second) ≤ length old
+    entries-room : 8 * length (differing first second) ≤ length old
     entries-room = accepted first second (length old) number .2
 
     lists : Bytes first → Bytes second → CompareListed first second old (ourCompare first second old)

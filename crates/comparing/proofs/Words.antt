@@ -7,8 +7,8 @@ use Prim.Native.Nat.{ℕ, zero, suc, _+_, _*_, _/_, _%_, _-_, _≤_, _<_}
 use native.Mathlib.Omega.{arith}
 use lib.ListN.{length, getD, take, drop}
 use lib.Seq.{ext-getD, getD-take, getD-drop}
-use Rattle.numbers.specs.Bytes.{Bytes, bytes, field}
-use Rattle.numbers.proofs.Laws.{bytes-field}
+use Rattle.numbers.specs.Bytes.{Bytes, field}
+use Rattle.numbers.proofs.Laws.{same-field-bytes}
 use Rattle.numbers.proofs.Truth.{if-same, if-below}
 use Rattle.comparing.specs.Requests.{Comparison, entryNumber, entrySum, Tells, CompareListed}
 
@@ -87,10 +87,7 @@ SameAt xs ys p = getD xs p 0 ≡ getD ys p 0
 -- A field that is the same number in two lists has the same bytes in both.
 field-same : (w from : ℕ) (xs ys : List ℕ) → Bytes xs → Bytes ys → from + w ≤ length xs → from + w ≤ length ys → field w from xs ≡ field w from ys
     → (r : ℕ) → r < w → SameAt xs ys (from + r)
-field-same w from xs ys bx by hx hy e r h = sym (byte xs) ∙ ap (λ (l : List ℕ). getD l r 0) same ∙ byte ys where
-  same : take w (drop from xs) ≡ take w (drop from ys)
-  same = sym (bytes-field w from xs bx hx) ∙ ap (bytes w) e ∙ bytes-field w from ys by hy
-
+field-same w from xs ys bx by hx hy e r h = sym (byte xs) ∙ ap (λ (l : List ℕ). getD l r 0) (same-field-bytes w from xs ys bx by hx hy e) ∙ byte ys where
   byte : (l : List ℕ) → getD (take w (drop from l)) r 0 ≡ getD l (from + r) 0
   byte l = getD-take w (drop from l) r 0 h ∙ getD-drop from l r 0
 

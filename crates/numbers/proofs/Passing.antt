@@ -13,10 +13,10 @@ use Rattle.numbers.proofs.Truth.{is-true, is-false, chosen, if-same}
 abbrev AtEach : (ℕ → Type 0) → List ℕ → Type 0
 AtEach P l = (i : ℕ) → i < length l → P (getD l i 0)
 
-abbrev pub Rises : List ℕ → Type 0
+abbrev Rises : List ℕ → Type 0
 Rises l = (i j : ℕ) → i < j → j < length l → getD l i 0 < getD l j 0
 
-abbrev pub HasPlace : List ℕ → ℕ → Type 0
+abbrev HasPlace : List ℕ → ℕ → Type 0
 HasPlace l k = (i : ℕ) × (i < length l) × (getD l i 0 ≡ k)
 
 -- Of one number more, in front.

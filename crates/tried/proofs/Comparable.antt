@@ -27,14 +27,14 @@ use Rattle.comparing.specs.Differences.{badRecord, badBuffer}
 use Rattle.comparing.proofs.Buffers.{no-bad}
 
 -- Whole records, no more than n of them, each with its two zeros.
-pub record Records (n : ℕ) (s : List ℕ) : Type 0 where
+record Records (n : ℕ) (s : List ℕ) : Type 0 where
   pub count : ℕ
   pub whole : length s ≡ 12 * count
   pub few : count ≤ n
   pub zeros : (k : ℕ) → k < count → field 2 (12 * k + 6) s ≡ 0
 
 -- Q-4 5: comparing takes them where there are 8,192 at most.
-pub records-taken : (n : ℕ) (s : List ℕ) → Records n s → n ≤ 8192 → badBuffer s ≡ false
+records-taken : (n : ℕ) (s : List ℕ) → Records n s → n ≤ 8192 → badBuffer s ≡ false
 unfolding badRecord eventAt eventCount
 records-taken n s r h =
     let w = r .whole in
@@ -84,7 +84,7 @@ turns-record [] = record { count = 0; whole = refl; few = omega arith; zeros = �
 turns-record (s ∷ ss) = turn-more (s .turn) (s .came .wrote) (length ss) (flatMap (λ s. recordBytes (s .turn) (s .came .wrote)) ss) (turns-record ss)
 
 -- Turn 6, Events 6: the records of any run of no more turns than this.
-pub course-records : (budget t : ℕ) (m : Machine) (trace : PlainTrace) → length (trace .steps) ≤ budget → Records budget (courseOf plain t m trace .records)
+course-records : (budget t : ℕ) (m : Machine) (trace : PlainTrace) → length (trace .steps) ≤ budget → Records budget (courseOf plain t m trace .records)
 unfolding courseOf
 course-records budget t m trace h =
     let q = turns-record (trace .steps) in
