@@ -1,19 +1,22 @@
 -- A buffer that is bad, by each of its faults; and what a good one keeps.
 -- Assumes nothing.
-use mathlib.Core.Path.{_≡_}
+use mathlib.Core.Path.{_≡_, ap}
 use mathlib.Core.Bool.{true, false, _||_, not, or-true}
 use mathlib.Core.List.{List}
+use mathlib.Core.Logic.{_↔_}
 use Prim.Native.Nat.{ℕ, _+_, _*_, _/_, _%_, _≤_, _<_}
 use native.Mathlib.Omega.{arith}
 use borrow.Author.Tests.{lt-ltb, le-ltb, eq-eqb, ne-eqb, eqb-true, ltb-false, not-false}
 use lib.Dec.{eqb, ltb}
-use lib.ListN.{length}
+use lib.ListN.{length, getD}
 use Rattle.numbers.specs.Bytes.{field}
 use Rattle.numbers.specs.Tests.{anyBelow}
 use Rattle.numbers.proofs.Truth.{neither}
 use Rattle.numbers.proofs.Tests.{any-below, no-any, none-below}
 use Rattle.events.specs.Events.{eventAt, eventCount}
+use Rattle.events.proofs.Scripts.{two-bytes}
 use Rattle.comparing.specs.Differences.{badRecord, badBuffer}
+use Rattle.comparing.specs.Requests.{AreRecords}
 
 module _ (s : List ℕ) where
   pub bad-count : 8192 < eventCount s → badBuffer s ≡ true
@@ -48,3 +51,24 @@ good s e =
       whole = omega (arith, eqb-true (length s % 12) 0 (not-false (eqb (length s % 12) 0) (d .0)));
       zeros = λ k h. eqb-true (field 2 (12 * k + 6) s) 0 (not-false (eqb (field 2 (12 * k + 6) s) 0) (none-below (badRecord s) (length s / 12) (d .1) k h));
     }
+
+-- Q-4 5: a buffer is refused exactly if its bytes are no records.
+pub records-exactly : (s : List ℕ) → (badBuffer s ≡ false) ↔ AreRecords s
+unfolding badRecord eventAt eventCount
+records-exactly s = (to, from) where
+  pair : (k : ℕ) → getD s (12 * k + 6) 0 + 256 * getD s (12 * k + 7) 0 ≡ field 2 (12 * k + 6) s
+  pair k = let e : 12 * k + 6 + 1 ≡ 12 * k + 7 = omega arith in rw (← e) (two-bytes (12 * k + 6) s)
+
+  to : badBuffer s ≡ false → AreRecords s
+  to e =
+      let g = good s e in
+      record {
+        most = omega (arith, g .most, g .whole);
+        twelves = omega (arith, g .whole);
+        zeros = λ k h. let z = g .zeros k (omega (arith, g .whole)) in (omega (arith, pair k, z), omega (arith, pair k, z));
+      }
+
+  from : AreRecords s → badBuffer s ≡ false
+  from r =
+      no-bad s (omega (arith, r .most)) (r .twelves)
+      (λ k h. let z = r .zeros k (omega arith) in ap not (eq-eqb (field 2 (12 * k + 6) s) 0 (omega (arith, pair k, z .0, z .1))))

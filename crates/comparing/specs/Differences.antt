@@ -41,7 +41,7 @@ sumAt first second k =
 unfoldable pub differsAt : List ℕ → List ℕ → ℕ → Bool
 differsAt first second k = not (eqb (sumAt first second k) 0)
 
--- Q-4 2: the numbers that are listed, each once and in rising order, of all that a record of either buffer has.
+-- Q-4 2: the numbers that are listed, each once and in rising order, of all numbers that a record of either buffer has.
 unfoldable pub differing : List ℕ → List ℕ → List ℕ
 differing first second = passing (differsAt first second) 0 (max (eventCount first) (eventCount second))
 

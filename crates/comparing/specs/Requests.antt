@@ -6,7 +6,7 @@ use mathlib.Core.List.{List, _++_}
 use mathlib.Core.Logic.{_↔_}
 use Prim.Native.Nat.{ℕ, _+_, _*_, _/_, _%_, _≤_, _<_}
 use lib.Dec.{eqb}
-use lib.ListN.{length, take, drop}
+use lib.ListN.{length, getD, take, drop}
 use Rattle.numbers.specs.Bytes.{Bytes, field}
 use Rattle.numbers.specs.Tests.{Lowest, NoRow}
 use Rattle.comparing.specs.Differences.{badBuffer, differing, differences}
@@ -38,6 +38,12 @@ Differs first second k = recordOf first k ≡ recordOf second k → ⊥
 -- Q-4 2: the buffer has a record with this number.
 abbrev pub Has : List ℕ → ℕ → Type 0
 Has s k = 12 * k < length s
+
+-- Q-4 5: bytes that are records: 98,304 at most, in twelves, and the two zeros of each record are 0.
+pub record AreRecords (s : List ℕ) : Type 0 where
+  pub most : length s ≤ 98304
+  pub twelves : length s % 12 ≡ 0
+  pub zeros : (k : ℕ) → Has s k → (getD s (12 * k + 6) 0 ≡ 0) × (getD s (12 * k + 7) 0 ≡ 0)
 
 -- Q-4 4: the record number and the sum of entry i of a list, from 0.
 abbrev pub entryNumber : List ℕ → ℕ → ℕ

@@ -20,8 +20,10 @@ pub struct Compared {
     pub entries: usize,
 }
 
-// The most records of a buffer.
-pub const MOST: usize = 8192;
+impl Compared {
+    // The most records of a buffer.
+    pub const MOST: usize = 8192;
+}
 
 // An entry takes this many bytes: the number of a record, and the sum of what differs in it.
 pub const ENTRY: usize = 8;
@@ -62,7 +64,7 @@ fn is_bad(s: &[u8]) -> bool
     ensures { λ r. ⌜ r ≡ badBuffer (now (s .entry)) ⌝ }
 {
     let count = event_count(s);
-    if MOST < count {
+    if Compared::MOST < count {
         return true;
     }
     if s.len() % SIZE != 0 {

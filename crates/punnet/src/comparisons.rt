@@ -11,6 +11,7 @@ use crate::outputs;
 use crate::paths;
 use crate::runs;
 use crate::texts;
+use comparing::Compared;
 use parts::Line;
 use parts::writing;
 use telling::differences;
@@ -18,7 +19,7 @@ use telling::refusals;
 use telling::trace;
 
 // Room for one record more than there may be.
-const ROOM: usize = events::script::SIZE * (comparing::MOST + 1);
+const ROOM: usize = events::script::SIZE * (Compared::MOST + 1);
 
 type Room = [u8; ROOM];
 
@@ -31,7 +32,7 @@ fn of_room<'a>(room: &'a Room, length: usize) -> &'a [u8] {
 
 // The entries of a list, at the front of a buffer.
 fn of_entries<'a>(list: &'a Buffer, count: usize) -> &'a [u8] {
-    if comparing::MOST < count {
+    if Compared::MOST < count {
         return parts::front(list, 0);
     }
     parts::front(list, comparing::ENTRY * count)

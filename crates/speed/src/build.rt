@@ -1,4 +1,5 @@
 // The programs that are measured, and as many events as a run takes, byte by byte.
+use comparing::Compared;
 use events::Event;
 
 // The largest programs are made of blocks of fourteen lines: eight statements and six declarations. In a block # stands for its character, @ and
@@ -238,7 +239,7 @@ pub fn events() -> Events {
 // As many records as there may be.
 pub type Records = [u8; RECORDS_SIZE];
 
-const RECORDS_SIZE: usize = events::script::SIZE * comparing::MOST;
+const RECORDS_SIZE: usize = events::script::SIZE * Compared::MOST;
 
 // A number below 65,535, or one more.
 fn more_if(test: bool, n: usize) -> usize {
@@ -247,8 +248,8 @@ fn more_if(test: bool, n: usize) -> usize {
 
 // A byte of a record of one of two runs; the second has another turn, kind, number or value in five records of eight.
 fn record_byte(k: usize, i: usize, other: bool) -> u8 {
-    let turn = more_if(other & (k % 8 == 1), k % comparing::MOST);
-    let value = more_if(other & (k % 4 == 0), k % comparing::MOST * 3);
+    let turn = more_if(other & (k % 8 == 1), k % Compared::MOST);
+    let value = more_if(other & (k % 4 == 0), k % Compared::MOST * 3);
     match i {
         0 => low(turn),
         1 => high(turn),

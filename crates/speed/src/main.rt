@@ -1,10 +1,11 @@
 // Repeats one of the bench's five calls, and writes a checksum of the answers and of the buffer that the call fills or reads. The arguments are
 // what is repeated, and how many times: `translate` takes the largest program with its names declared behind all statements, `half` and
-// `quarter` so much of it; `check`, `list` and `run` take the largest program, `calls` runs one that calls and returns, and `compare` takes as many records as there may be. A call that is refused
-// is the last, and its number is written in place of the sum.
+// `quarter` so much of it; `check`, `list` and `run` take the largest program, `calls` runs one that calls and returns, and `compare` takes as
+// many records as there may be. A call that is refused is the last, and its number is written in place of the sum.
 mod build;
 mod sums;
 
+use comparing::Compared;
 use libc::STDERR_FILENO;
 use libc::STDOUT_FILENO;
 
@@ -140,7 +141,7 @@ fn compare(times: u64, first: &[u8], second: &[u8], list: &mut [u8]) -> u64 {
 fn on_records(times: u64) -> u64 {
     let first = build::records(false);
     let second = build::records(true);
-    let mut list = [0u8; comparing::ENTRY * comparing::MOST];
+    let mut list = [0u8; comparing::ENTRY * Compared::MOST];
     compare(times, &first, &second, &mut list)
 }
 

@@ -1,6 +1,7 @@
 // What differs between the records of two runs, side by side.
 use crate::Entry;
 use crate::trace;
+use comparing::Compared;
 use parts::Line;
 
 // The columns: numbers of records, turns and records, and what stands between two of them.
@@ -19,7 +20,7 @@ const LAST_COLUMN: usize = SECOND_COLUMN + GAP + TURN_WIDTH + GAP + RECORD_WIDTH
 
 // An entry of a list: the number of a record, and the sum of what differs in it.
 pub fn entry(list: &[u8], i: usize) -> Entry {
-    let at = comparing::ENTRY * (i % comparing::MOST);
+    let at = comparing::ENTRY * (i % Compared::MOST);
     Entry {
         number: numbers::read4(list, at) as usize,
         sum: numbers::read4(list, at + comparing::SUM),

@@ -3,6 +3,7 @@ use crate::Hint;
 use crate::hints;
 use crate::marks::NOTHING;
 use crate::trace::entry;
+use comparing::Compared;
 use events::Event;
 use events::Record;
 
@@ -132,7 +133,7 @@ pub fn first_bad_record(bytes: &[u8]) -> usize {
 
 // What is wrong with bytes that are no records.
 pub fn instead_of_records(bytes: &[u8]) -> u32 {
-    if comparing::MOST < events::script::event_count(bytes) {
+    if Compared::MOST < events::script::event_count(bytes) {
         return MANY_RECORDS;
     }
     if !scripts::is_bytes(bytes) {

@@ -1,5 +1,6 @@
 // A run told turn by turn: the events, the statement with its line, and what it recorded.
 use crate::Mark;
+use comparing::Compared;
 use events::Event;
 use events::Record;
 use parts::Line;
@@ -59,8 +60,8 @@ fn line_of(visits: &[u8], cell: usize) -> usize {
 
 // A record or an event by its number; none has a number above the most records.
 pub fn entry(bytes: &[u8], k: usize) -> Event {
-    if comparing::MOST < k {
-        return events::script::event_at(bytes, comparing::MOST);
+    if Compared::MOST < k {
+        return events::script::event_at(bytes, Compared::MOST);
     }
     events::script::event_at(bytes, k)
 }
