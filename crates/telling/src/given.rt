@@ -37,6 +37,8 @@ const MANY_RECORDS: u32 = 57;
 
 const PART_OF_A_RECORD: u32 = 58;
 
+const TEXT_FOR_RECORDS: u32 = 59;
+
 // The refusal of an image of another edition.
 const OTHER_EDITION: u8 = 22;
 
@@ -137,7 +139,7 @@ pub fn instead_of_records(bytes: &[u8]) -> u32 {
         return MANY_RECORDS;
     }
     if !scripts::is_bytes(bytes) {
-        return TEXT;
+        return TEXT_FOR_RECORDS;
     }
     if bytes.len() % events::script::SIZE != 0 {
         return PART_OF_A_RECORD;

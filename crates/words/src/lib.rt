@@ -108,7 +108,7 @@ const TOOL_SIZE: usize = 2878;
 
 const ANSWER_SIZE: usize = 1823;
 
-const HINT_SIZE: usize = 2637;
+const HINT_SIZE: usize = 2709;
 
 const USE_SIZE: usize = 1399;
 
@@ -124,7 +124,7 @@ const FIRST_COMMAND: usize = HELP + 68;
 pub const SIZE: usize = HELP + HELP_SIZE;
 
 // The number of lines, and the bytes of the longest with its end.
-const LINE_COUNT: usize = 216;
+const LINE_COUNT: usize = 217;
 
 pub const LONGEST: usize = 93;
 
@@ -322,6 +322,7 @@ hint 55: is a word of the drives; they would take it for their own
 hint 56: is a word of the drives; no line may declare it
 hint 57: more than 8,192 records
 hint 58: records have 12 bytes each
+hint 59: this looks like a text; --texts compares the runs of two texts
 ";
 
 const USES: [u8; USE_SIZE] =
