@@ -10,7 +10,7 @@ use Rattle.numbers.specs.Tests.{eqZ, anyBelow, passing}
 use Rattle.events.specs.Events.{eventAt, eventCount}
 use Rattle.events.specs.declared.Event.{Event}
 
--- Q-4 5: a record whose two zeros are not 0.
+-- Q-4 5: of a record the two bytes that have to be 0 are not.
 unfoldable pub badRecord : List ℕ → ℕ → Bool
 badRecord s k = not (eqb (eventAt s k .zeros) 0)
 

@@ -50,7 +50,7 @@ const BAD_SECOND: u8 = 52;
 
 const SHORT_LIST: u8 = 53;
 
-// A record whose zeros are not 0.
+// A record with other bytes than zeros where these have to be.
 fn is_bad_record(s: &[u8], k: usize) -> bool
     requires { ⌜ (k < eventCount (now s)) × (eventCount (now s) ≤ 8192) ⌝ }
     ensures { λ r. ⌜ r ≡ badRecord (now (s .entry)) k ⌝ }

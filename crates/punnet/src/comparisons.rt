@@ -52,7 +52,7 @@ pub fn compare_command(first: &[u8], second: &[u8], to: &[u8], force: bool) -> u
     if !are_apart(first, second) {
         return TROUBLE;
     }
-    if !outputs::may_replace(to, outputs::TEXT, force, first, second) {
+    if !outputs::may_replace(to, outputs::UNKNOWN, force, first, second) {
         return TROUBLE;
     }
     let mut room = [0u8; ROOM];

@@ -100,7 +100,7 @@ fn work(command: u32, force: bool, a: &[u8], b: &[u8], c: &[u8], d: &[u8]) -> u8
         TRY => runs::try_command(a, b, c),
         TRANSLATE => programs::make_file(command, a, b, outputs::IMAGE, force),
         CHECK => programs::work_on(command, a, b, 0, b),
-        LIST => programs::make_file(command, a, b, outputs::TEXT, force),
+        LIST => programs::make_file(command, a, b, outputs::UNKNOWN, force),
         RUN => runs::run_command(command, a, b, c, d, force),
         EVENTS => scripted::events_command(a, b, force),
         COMPARE => comparisons::compare_command(a, b, c, force),

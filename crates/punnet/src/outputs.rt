@@ -1,5 +1,5 @@
 // Files that are written, whole or not at all. What must not be replaced is tested before anything is read: a link is followed and stays,
-// only a plain file is replaced, and, unless that is asked for, only one of the kind that is written; a text replaces none.
+// only a plain file is replaced, and, unless that is asked for, only one of the kind that is written; a text or a list, which no byte tells, replaces none.
 use crate::Facts;
 use crate::Part;
 use crate::arguments::NO_OPTION;
@@ -20,7 +20,7 @@ pub const RECORDS: u32 = 24;
 
 pub const EVENTS: u32 = 25;
 
-pub const TEXT: u32 = 33;
+pub const UNKNOWN: u32 = 33;
 
 // What else is wrong with a file that is to be written.
 const SOURCE: u32 = 21;
@@ -84,7 +84,7 @@ fn objection(path: &[u8], kind: u32, force: bool, is_plain: bool, is_read: bool)
     if force {
         return 0;
     }
-    if kind == TEXT {
+    if kind == UNKNOWN {
         return kind;
     }
     if holds(path, kind) {

@@ -13,7 +13,7 @@ const RECORD_WIDTH: usize = 22;
 
 const GAP: usize = 2;
 
-// Where the columns of the second run end up, and those of what differs, each behind its gap.
+// Where the columns of the second run begin, and that of what differs, each with its gap.
 const SECOND_COLUMN: usize = NUMBER_WIDTH + GAP + TURN_WIDTH + GAP + RECORD_WIDTH;
 
 const LAST_COLUMN: usize = SECOND_COLUMN + GAP + TURN_WIDTH + GAP + RECORD_WIDTH;
