@@ -1,7 +1,7 @@
 -- The list as bytes: its length, the entries by their places, and one entry more.
 -- Assumes nothing.
 use mathlib.Core.Path.{_≡_, refl, sym, ap, _∙_}
-use mathlib.Core.Bool.{Bool, true, false, cond}
+use mathlib.Core.Bool.{Bool, true, cond}
 use mathlib.Core.List.{List, [], _∷_, _++_, flatMap, append-assoc}
 use Prim.Native.Nat.{ℕ, suc, _+_, _*_, _-_, _≤_, _<_, max}
 use native.Mathlib.Nat.{sub-zero}
@@ -19,7 +19,7 @@ use Rattle.numbers.proofs.Truth.{if-same}
 use Rattle.events.specs.Events.{eventCount}
 use Rattle.comparing.specs.Differences.{weight, sumAt, differsAt, differing, entryBytes, differences}
 use Rattle.comparing.specs.Requests.{entryNumber, entrySum}
-use Rattle.comparing.proofs.Sums.{not-listed, is-listed, sum-below}
+use Rattle.comparing.proofs.Sums.{not-listed, is-listed, weight-most, sum-below}
 
 module _ (first second : List ℕ) where
   -- The entry of a record number.
@@ -163,6 +163,4 @@ module _ (first second : List ℕ) where
 
 -- The place behind an entry.
 pub write-next : (t : Bool) (at k : ℕ) {next : ℕ} → next ≡ at + weight t 8 → at ≤ 8 * k → next ≤ 8 * (k + 1)
-unfolding weight
-write-next true at k e h = omega (arith, e)
-write-next false at k e h = omega (arith, e)
+write-next t at k e h = omega (arith, e, weight-most t 8)

@@ -8,17 +8,18 @@ use Prim.Native.Nat.{ℕ, _+_, _*_, _-_, _/_, _%_, _≤_}
 use native.Mathlib.Omega.{arith}
 use borrow.Author.Tests.{eq-eqb, eqb-true}
 use lib.Dec.{eqb}
-use lib.IntN.{ℤ, pos, negsuc}
 use lib.ListN.{length, take, drop, length-drop}
 use lib.Seq.{take-add, take-all, take-take, drop-drop, drop-at, length-take-le}
 use Rattle.numbers.specs.Bits.{digits32, signed32}
 use Rattle.numbers.specs.Bytes.{Bytes, number, field}
 use Rattle.numbers.specs.Tests.{eqZ}
+use Rattle.numbers.proofs.Tests.{eqZ-same, eqZ-refl}
 use Rattle.numbers.proofs.Laws.{same-field-bytes, field-below, digits-signed}
 use Rattle.events.specs.Events.{eventAt}
 use Rattle.events.specs.declared.Event.{Event}
 use Rattle.comparing.specs.Differences.{weight, fieldSum}
 use Rattle.comparing.specs.Requests.{recordOf, part, PartDiffers}
+use Rattle.comparing.proofs.Sums.{weight-most}
 
 -- ---- the digits of a sum
 
@@ -26,11 +27,6 @@ weight-digit : (t : Bool) (w : ℕ) → weight t w ≡ w * weight t 1
 unfolding weight
 weight-digit true w = omega arith
 weight-digit false w = omega arith
-
-digit-most : (t : Bool) → weight t 1 ≤ 1
-unfolding weight
-digit-most true = omega arith
-digit-most false = omega arith
 
 digits-back : (p q r s : ℕ) → p ≤ 1 → q ≤ 1 → r ≤ 1 → s ≤ 1 → (n : ℕ) → n ≡ p + (2 * q + (4 * r + 8 * s))
     → (n % 2 ≡ p) × (n / 2 % 2 ≡ q) × (n / 4 % 2 ≡ r) × (n / 8 % 2 ≡ s)
@@ -42,7 +38,7 @@ module _ (a b : Event) where
   unfolding fieldSum
   sum-digits =
       digits-back (weight (eqb (a .turn) (b .turn)) 1) (weight (eqb (a .kind) (b .kind)) 1) (weight (eqb (a .number) (b .number)) 1) (weight (eqZ (a .value) (b .value)) 1)
-      (digit-most (eqb (a .turn) (b .turn))) (digit-most (eqb (a .kind) (b .kind))) (digit-most (eqb (a .number) (b .number))) (digit-most (eqZ (a .value) (b .value)))
+      (weight-most (eqb (a .turn) (b .turn)) 1) (weight-most (eqb (a .kind) (b .kind)) 1) (weight-most (eqb (a .number) (b .number)) 1) (weight-most (eqZ (a .value) (b .value)) 1)
       (fieldSum a b)
       (omega (arith, weight-digit (eqb (a .kind) (b .kind)) 2, weight-digit (eqb (a .number) (b .number)) 4, weight-digit (eqZ (a .value) (b .value)) 8))
 
@@ -67,18 +63,6 @@ module _ (t : Bool) (P : Type 0) (yes : t ≡ true → P) (no : P → t ≡ true
     held false s = let w : n ≡ 1 = e ∙ rw s refl in absurd (omega arith)
 
 -- ---- numbers and bytes
-
-eqZ-same : (a b : ℤ) → eqZ a b ≡ true → a ≡ b
-unfolding eqZ
-eqZ-same (pos a) (pos b) e = ap pos (eqb-true a b e)
-eqZ-same (pos a) (negsuc b) e = absurd (true≢false (sym e))
-eqZ-same (negsuc a) (pos b) e = absurd (true≢false (sym e))
-eqZ-same (negsuc a) (negsuc b) e = ap negsuc (eqb-true a b e)
-
-eqZ-refl : (a : ℤ) → eqZ a a ≡ true
-unfolding eqZ
-eqZ-refl (pos a) = eq-eqb a a refl
-eqZ-refl (negsuc a) = eq-eqb a a refl
 
 -- The 12 bytes of a record, field by field; and a part of the first n bytes.
 in-fields : (r : List ℕ) → length r ≡ 12

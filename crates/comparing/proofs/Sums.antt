@@ -7,9 +7,9 @@ use Prim.Native.Nat.{ℕ, _≤_, _<_, max}
 use native.Mathlib.Omega.{arith}
 use borrow.Author.Tests.{le-leb, lt-leb, eq-eqb, ne-eqb}
 use lib.Dec.{eqb}
-use lib.IntN.{ℤ, pos, negsuc}
 use Rattle.numbers.specs.Tests.{eqZ}
 use Rattle.numbers.proofs.Truth.{eqb-turn, if-below}
+use Rattle.numbers.proofs.Tests.{eqZ-turn}
 use Rattle.events.specs.Events.{eventAt, eventCount}
 use Rattle.events.specs.declared.Event.{Event}
 use Rattle.comparing.specs.Differences.{weight, fieldSum, sumAt, differsAt}
@@ -39,7 +39,7 @@ module _ (first second : List ℕ) (k : ℕ) where
   sum-both h l = rw (lt-leb (eventCount second) k l, lt-leb (eventCount first) k h)
 
 -- The sum of fields is below 16.
-weight-most : (t : Bool) (w : ℕ) → weight t w ≤ w
+pub weight-most : (t : Bool) (w : ℕ) → weight t w ≤ w
 unfolding weight
 weight-most true w = omega arith
 weight-most false w = omega arith
@@ -58,13 +58,6 @@ sum-below first second k =
     (λ l. omega (arith, sum-first first second k l))
 
 -- The other way round: fields are the same, 16 and 32 are exchanged.
-eqZ-turn : (a b : ℤ) → eqZ a b ≡ eqZ b a
-unfolding eqZ
-eqZ-turn (pos a) (pos b) = eqb-turn a b
-eqZ-turn (pos a) (negsuc b) = refl
-eqZ-turn (negsuc a) (pos b) = refl
-eqZ-turn (negsuc a) (negsuc b) = eqb-turn a b
-
 fields-turned : (a b : Event) → fieldSum b a ≡ fieldSum a b
 unfolding fieldSum
 fields-turned a b =

@@ -37,7 +37,7 @@ sumAt first second k =
     (cond (leb (eventCount first) k) 32
     (fieldSum (eventAt first k) (eventAt second k)))
 
--- Q-4 2: the record differs, or stands in one buffer only.
+-- Q-4 2: the two records with this number are not the same, or a buffer lacks one.
 unfoldable pub differsAt : List ℕ → List ℕ → ℕ → Bool
 differsAt first second k = not (eqb (sumAt first second k) 0)
 

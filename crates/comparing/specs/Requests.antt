@@ -28,7 +28,7 @@ recordOf s k = take 12 (drop (12 * k) s)
 abbrev pub part : ℕ → ℕ → List ℕ → ℕ → List ℕ
 part w from s k = take w (drop from (recordOf s k))
 
--- The two buffers have other bytes there: in a part of the record, or in all of it (Q-4 2: it differs, or stands in one of them only).
+-- The two buffers have other bytes there: in a part of the record, or in all of it. A record that one of them lacks is other bytes too (Q-4 2).
 abbrev pub PartDiffers : ℕ → ℕ → List ℕ → List ℕ → ℕ → Type 0
 PartDiffers w from first second k = part w from first k ≡ part w from second k → ⊥
 

@@ -30,7 +30,7 @@ pub const ENTRY: usize = 8;
 
 pub const SUM: usize = 4;
 
-// What the sum is of; or the record stands in one buffer only.
+// What the sum is of; or which buffer alone has the record.
 pub const TURN: u32 = 1;
 
 pub const KIND: u32 = 2;
@@ -168,7 +168,7 @@ fn refused(number: u8) -> Compared
     Compared { number, entries: 0 }
 }
 
-// Compares two record buffers: for each record number that differs, or stands in one buffer only, an entry goes to the list.
+// Compares two record buffers: an entry goes to the list for each number at which the records are not the same, or a buffer lacks one.
 pub fn compare(first: &[u8], second: &[u8], list: &mut [u8]) -> Compared
     ensures { λ r. ⌜ Compares (now (first .entry)) (now (second .entry)) (now (list .entry)) r (now (list .exit)) ⌝ }
 {

@@ -1,4 +1,4 @@
--- Laws of the tests of specs/: over lists, over the numbers below another, and over words.
+-- Laws of the tests of specs/: over lists, over the numbers below another, over whole numbers, and over words.
 -- Assumes nothing.
 use mathlib.Core.Path.{_≡_, refl, sym, ap, ap₂, subst, _∙_}
 use mathlib.Core.Bool.{Bool, true, false, cond, _||_, true≢false, or-true, or-assoc}
@@ -6,11 +6,12 @@ use mathlib.Core.List.{List, [], _∷_, _++_, map}
 use mathlib.Core.Logic.{_↔_, _⊎_, inl, inr, ⊎-elim}
 use Prim.Native.Nat.{ℕ, zero, suc, _+_, _≤_, _<_}
 use native.Mathlib.Omega.{arith}
-use borrow.Author.Tests.{lt-ltb, le-ltb, ltb-true, ltb-false}
+use borrow.Author.Tests.{lt-ltb, le-ltb, ltb-true, ltb-false, eq-eqb, eqb-true}
 use lib.Dec.{T, eqb, ltb, eqb→eq, eqb-refl}
+use lib.IntN.{ℤ, pos, negsuc}
 use lib.ListN.{length, getD}
-use Rattle.numbers.specs.Tests.{eqList, Each, allOf, anyOf, allBelow, anyBelow, firstBelow, listed, numbered}
-use Rattle.numbers.proofs.Truth.{is-true, true-is, both, both-of, either, left-of, right-of, neither, if-same}
+use Rattle.numbers.specs.Tests.{eqZ, eqList, Each, allOf, anyOf, allBelow, anyBelow, firstBelow, listed, numbered}
+use Rattle.numbers.proofs.Truth.{is-true, true-is, both, both-of, either, left-of, right-of, neither, eqb-turn, if-same}
 
 -- ---- over lists
 
@@ -193,6 +194,28 @@ module _ (p : ℕ → Bool) where
     step true u e f m g l = g (ltb-true (firstBelow n p) n e)
     step false true e f m g l = let b = ltb-false (firstBelow n p) n e in let z : firstBelow n p ≡ n = omega arith in rw z f
     step false false e f m g l = absurd (omega arith)
+
+-- ---- whole numbers
+
+-- Two whole numbers are the same where the test says so; the test the other way round.
+pub eqZ-refl : (a : ℤ) → eqZ a a ≡ true
+unfolding eqZ
+eqZ-refl (pos a) = eq-eqb a a refl
+eqZ-refl (negsuc a) = eq-eqb a a refl
+
+pub eqZ-same : (a b : ℤ) → eqZ a b ≡ true → a ≡ b
+unfolding eqZ
+eqZ-same (pos a) (pos b) e = ap pos (eqb-true a b e)
+eqZ-same (pos a) (negsuc b) e = absurd (true≢false (sym e))
+eqZ-same (negsuc a) (pos b) e = absurd (true≢false (sym e))
+eqZ-same (negsuc a) (negsuc b) e = ap negsuc (eqb-true a b e)
+
+pub eqZ-turn : (a b : ℤ) → eqZ a b ≡ eqZ b a
+unfolding eqZ
+eqZ-turn (pos a) (pos b) = eqb-turn a b
+eqZ-turn (pos a) (negsuc b) = refl
+eqZ-turn (negsuc a) (pos b) = refl
+eqZ-turn (negsuc a) (negsuc b) = eqb-turn a b
 
 -- ---- words
 
