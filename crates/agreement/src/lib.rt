@@ -1,1 +1,2 @@
 // A text and its image say one thing: theorems, no code.
+#![tactic(auto)]

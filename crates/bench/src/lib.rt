@@ -1,10 +1,12 @@
 // The bench: a text translated, an image checked, listed and run. Its answers are plain data.
+#![tactic(auto)]
+
 mod answers;
 
 ghost use Rattle.bench.specs.Calls.{Translates, Checks, Lists, Runs};
 
 // Number 0, and the image's length; or the refusal with its line.
-#[derive(Drop)]
+#[derive(Clone, Copy)]
 pub struct Translated {
     pub number: u8,
     pub line: usize,
@@ -12,20 +14,20 @@ pub struct Translated {
 }
 
 // 0, or the refusal.
-#[derive(Drop)]
+#[derive(Clone, Copy)]
 pub struct Checked {
     pub number: u8,
 }
 
 // Number 0, and the listing's length; or the refusal.
-#[derive(Drop)]
+#[derive(Clone, Copy)]
 pub struct Listed {
     pub number: u8,
     pub length: usize,
 }
 
 // A return place: the cell to return to. The mark is 1 where the call of a handler kept it, with that handler's target; else both are 0.
-#[derive(Drop)]
+#[derive(Clone, Copy)]
 pub struct StatePlace {
     pub cell: u16,
     pub target: u16,
@@ -33,7 +35,7 @@ pub struct StatePlace {
 }
 
 // A machine's state. The handler is 65535 where there is none; the motion is 0 still, 1 a move, 2 a slew, and its value the target or the velocity.
-#[derive(Drop)]
+#[derive(Clone, Copy)]
 pub struct State {
     pub variables: [i32; 64],
     pub next: u16,
@@ -46,7 +48,7 @@ pub struct State {
 }
 
 // Number 0, with the end reason, the turns run, the records written and the final state; or the refusal with the event's index, and all else 0.
-#[derive(Drop)]
+#[derive(Clone, Copy)]
 pub struct Ran {
     pub number: u8,
     pub index: usize,

@@ -1,5 +1,7 @@
 // Reads requests from standard input and writes one line for each to standard output, until the input ends. A request is a header and the
 // bytes of its two parts; a request that is broken gets the line `E`, and the program stops.
+#![tactic(auto)]
+
 mod line;
 
 use libc::{STDIN_FILENO, STDOUT_FILENO};
@@ -40,7 +42,7 @@ const READER: usize = 2;
 //   list: the image's length, 0, the size of the text buffer, 0
 //   compare: the lengths of the first and the second records, the size of the list, 0
 //   settings: the file's length, the size of the given values, the reader, 0
-#[derive(Drop)]
+#[derive(Clone, Copy)]
 struct Header {
     kind: usize,
     n1: usize,

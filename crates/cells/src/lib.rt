@@ -1,4 +1,6 @@
 // The cells of an image: whether each is one that translating makes.
+#![tactic(auto)]
+
 ghost use Rattle.std.specs.Prelude.{◌≡◌, true, ◌∷◌, ◌+◌, ◌<◌, drop, set};
 ghost use Rattle.numbers.specs.Tests.{any_of};
 ghost use Rattle.image.specs.Layout.{label_count, variable_count, label_target};
@@ -12,7 +14,7 @@ use program::{Cell, Variable};
 const TARGETS: usize = (Cell::MOST as usize) + 1;
 
 // The fields of a cell as they stand.
-#[derive(Drop)]
+#[derive(Clone, Copy)]
 struct Fields {
     operation: u8,
     written: u8,
@@ -26,7 +28,7 @@ struct Fields {
 
 // The fields that an operation may use together: the operation; whether it writes a variable; its last operator or
 // comparison, 0 where it has none; whether it has a left operand, a right operand and a target.
-#[derive(Drop)]
+#[derive(Clone, Copy)]
 struct Layout {
     operation: u8,
     writes: bool,

@@ -1,4 +1,6 @@
 // Checking an image: a test for each row of its refusals.
+#![tactic(auto)]
+
 ghost use Rattle.std.specs.Prelude.{◌≡◌, false, ◌+◌};
 ghost use Rattle.numbers.specs.Tests.{any_below};
 ghost use Rattle.image.specs.Layout.{label_count, variable_count};

@@ -43,7 +43,7 @@ const EVENT: usize = 14;
 const RAW: usize = 15;
 
 // Where a line stands in the input: its first byte, the place behind its last, and the next line.
-#[derive(Drop)]
+#[derive(Clone, Copy)]
 pub struct Span {
     start: usize,
     end: usize,

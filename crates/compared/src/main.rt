@@ -1,5 +1,7 @@
 // Reads worked cases from standard input, makes the bench's three calls on them, and compares each answer with the one that stands beside
 // its case. Each case writes a line, and the last line counts them. The head of the input says what its lines mean.
+#![tactic(auto)]
+
 mod answers;
 mod described;
 mod input;
@@ -9,7 +11,7 @@ use libc::{STDIN_FILENO, STDOUT_FILENO};
 use parts::{Line, writing};
 
 // How many cases there were, and how many of them agree.
-#[derive(Drop)]
+#[derive(Clone, Copy)]
 struct Count {
     agreeing: u64,
     all: u64,

@@ -1,4 +1,6 @@
 // What two runs recorded, compared record by record.
+#![tactic(auto)]
+
 ghost use Rattle.std.specs.Prelude.{◌≡◌, cond, [], ◌+◌, ◌≤◌, ◌<◌, max, eqb, length};
 ghost use Rattle.std.proofs.lemmas.List.Edits.{sets};
 ghost use Rattle.events.specs.Events.{event_count};
@@ -9,7 +11,7 @@ use events::Event;
 use events::script::{SIZE, event_count, whole_event};
 
 // Number 0, and how many entries the list has; or the refusal.
-#[derive(Drop)]
+#[derive(Clone, Copy)]
 pub struct Compared {
     pub number: u8,
     pub entries: usize,

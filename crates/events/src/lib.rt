@@ -1,9 +1,11 @@
 // Events and records, 12 bytes each: the events of a script, the bad ones, and what a turn records.
+#![tactic(auto)]
+
 pub mod records;
 pub mod script;
 
 // One event of a script.
-#[derive(Drop)]
+#[derive(Clone, Copy)]
 pub struct Event {
     pub turn: u32,
     pub kind: u8,
@@ -13,7 +15,7 @@ pub struct Event {
 }
 
 // What a turn records: kind 0 is nothing.
-#[derive(Drop)]
+#[derive(Clone, Copy)]
 pub struct Record {
     pub kind: u8,
     pub number: u32,

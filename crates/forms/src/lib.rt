@@ -1,4 +1,6 @@
 // The forms of statements, and what the tokens of a line take in their slots.
+#![tactic(auto)]
+
 ghost use Rattle.std.specs.Prelude.{◌≡◌, cond, ◌<◌};
 ghost use Rattle.program.specs.Cells.{operator_number, comparison_number};
 ghost use Rattle.program.specs.Code.{name_of};
@@ -132,21 +134,21 @@ const OPERATORS: [u8; 14] = *b"+\0-\0*\0/\0&\0|\0^\0";
 const COMPARISONS: [u8; 12] = *b"=\0<><\0<=>\0>=";
 
 // An operand: a literal by its sign and its size, or a variable by its key.
-#[derive(Drop)]
+#[derive(Clone, Copy)]
 pub enum Value {
     Literal(bool, u64),
     Variable(u16),
 }
 
 // How many tokens an operand takes, and what it is; none where no operand stands there.
-#[derive(Drop)]
+#[derive(Clone, Copy)]
 pub struct Taken {
     pub used: usize,
     pub value: Value,
 }
 
 // What the slots of a form took so far: where the next token stands, the parts, a name and a sign by its key; and whether each took something.
-#[derive(Drop)]
+#[derive(Clone, Copy)]
 pub struct Match {
     pub place: usize,
     pub left: Value,

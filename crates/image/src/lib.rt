@@ -1,4 +1,6 @@
 // An image: cells, label records, variable records and trailer, as bytes.
+#![tactic(auto)]
+
 ghost use Rattle.std.specs.Prelude.{◌≡◌, ◌+◌};
 ghost use Rattle.numbers.specs.Bytes.{field};
 ghost use Rattle.image.specs.Layout.{image_length, trailer_place, first_label_place, cell_count, label_count, variable_count, edition, whole_length, operand_at, cell_at, start_value};

@@ -1,4 +1,6 @@
 // The names that a text declares, and the faults that more than one line is needed to see.
+#![tactic(auto)]
+
 ghost use Rattle.std.specs.Prelude.{◌≡◌, ◌<◌, length};
 ghost use Rattle.program.specs.Code.{name_of};
 ghost use Rattle.text.specs.Faults.{said};
@@ -12,7 +14,7 @@ use rows::Row;
 use text::Fault;
 
 // How many cells, labels and variables some lines make.
-#[derive(Drop)]
+#[derive(Clone, Copy)]
 pub struct Counts {
     pub cells: usize,
     pub labels: usize,
@@ -20,7 +22,7 @@ pub struct Counts {
 }
 
 // The lines of a text that are passed: the lowest fault of the last of them, what they make, how many they are, and where the next one starts.
-#[derive(Drop)]
+#[derive(Clone, Copy)]
 struct Passed {
     fault: u8,
     counts: Counts,
@@ -29,7 +31,7 @@ struct Passed {
 }
 
 // The first fault of a text, and what its lines make where it has none.
-#[derive(Drop)]
+#[derive(Clone, Copy)]
 pub struct Survey {
     pub fault: Fault,
     pub counts: Counts,

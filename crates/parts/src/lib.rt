@@ -1,4 +1,6 @@
 // Bytes taken apart, into lines of a text and words of a line; and bytes put together.
+#![tactic(auto)]
+
 pub mod writing;
 
 // How many bytes a line and a page that are put together have room for.
@@ -6,7 +8,7 @@ pub const LINE: usize = 2048;
 
 pub const PAGE: usize = 65536;
 
-#[derive(Drop)]
+#[derive(Clone, Copy)]
 pub struct Line {
     pub bytes: Room,
     pub held: usize,

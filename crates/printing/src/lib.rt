@@ -1,4 +1,6 @@
 // The listing of an image, written: it is put together on a page first, so that nothing is written where there is no room.
+#![tactic(auto)]
+
 ghost use Rattle.std.specs.Prelude.{◌≡◌, ◌≤◌, length, take};
 ghost use mathlib.Core.List.{flat_map};
 ghost use Rattle.program.specs.Code.{key};
@@ -14,7 +16,7 @@ use program::Variable;
 use words::Words;
 
 // What does not fit into one word.
-#[derive(Drop)]
+#[derive(Clone, Copy)]
 struct Two {
     first: u64,
     second: u64,

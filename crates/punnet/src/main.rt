@@ -1,5 +1,7 @@
 // The bench as a tool on files: programs are tried, translated, checked, listed and run, runs compared, and settings shown and written. `punnet
 // help` tells how.
+#![tactic(auto)]
+
 mod arguments;
 mod commands;
 mod comparisons;
@@ -19,14 +21,14 @@ use arguments::{FORCE, LONG_HELP, NO_OPTION, SHORT_HELP, TEXTS};
 use commands::{CHECK, LIST, RUN, TRANSLATE, TRY, VERSION, WORDS};
 
 // How a file was read: how many bytes of the room it takes, and the status, which says whether it can be used.
-#[derive(Drop)]
+#[derive(Clone, Copy)]
 pub struct Contents {
     pub length: usize,
     pub status: u8,
 }
 
 // How a text was run: the status, which says whether it was; the length of its image, how many records it made, and how it ended.
-#[derive(Drop)]
+#[derive(Clone, Copy)]
 pub struct Recorded {
     pub status: u8,
     pub image: usize,
@@ -36,14 +38,14 @@ pub struct Recorded {
 }
 
 // A file that is being written: the length of its name, and its descriptor.
-#[derive(Drop)]
+#[derive(Clone, Copy)]
 pub struct Part {
     pub length: usize,
     pub file: i32,
 }
 
 // Whether there is a file, and whether it is a plain one; its permissions and owners; and the device and number that tell it from others.
-#[derive(Drop)]
+#[derive(Clone, Copy)]
 pub struct Facts {
     pub found: bool,
     pub plain: bool,

@@ -1,4 +1,6 @@
 // What a line says, and its lowest fault from 2 to 5.
+#![tactic(auto)]
+
 ghost use Rattle.std.specs.Prelude.{◌≡◌, ◌<◌};
 ghost use Rattle.forms.specs.Code.{parts_of};
 ghost use Rattle.reading.specs.Code.{say_of, faulty, acts_by, declares_by, any_big, read_parts, form_by, form_numbers, statement_by, reading_of};
@@ -13,7 +15,7 @@ pub mod cells;
 
 // What a line says: its lowest fault from 2 to 5, or 0; its kind; the key of the name that it declares; a variable's start value;
 // and the cell of a statement, in which names are keys.
-#[derive(Drop)]
+#[derive(Clone, Copy)]
 pub struct Reading {
     pub fault: u8,
     pub kind: u8,

@@ -1,4 +1,6 @@
 // An arrangement of names: a row for each name of two characters, in the order of the names. What a name is first declared as is one step away.
+#![tactic(auto)]
+
 ghost use Rattle.std.specs.Prelude.{◌≡◌, T};
 ghost use Rattle.program.specs.Names.{word_character};
 ghost use Rattle.program.specs.Code.{name_of};

@@ -1,1 +1,2 @@
 // The rules for a state of the machine: definitions and theorems, no code.
+#![tactic(auto)]

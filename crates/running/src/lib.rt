@@ -1,4 +1,6 @@
 // The run of an image, turn by turn.
+#![tactic(auto)]
+
 ghost use Rattle.std.specs.Prelude.{◌≡◌, false, ◌*◌, ◌-◌, ◌≤◌, length};
 ghost use Rattle.image.specs.Layout.{start_values};
 ghost use Rattle.machine.specs.Turn.{start_machine};
@@ -13,7 +15,7 @@ use events::script::{event_count, whole_event};
 use machine::Machine;
 
 // How a run went: why it ended, after how many turns, with how many bytes of records, and in which state.
-#[derive(Drop)]
+#[derive(Clone, Copy)]
 pub struct Ended {
     pub reason: u8,
     pub turns: u32,

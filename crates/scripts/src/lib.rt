@@ -1,10 +1,12 @@
 // Scripts of events that a person writes: a line for each event, turned into the bytes of the event.
+#![tactic(auto)]
+
 use events::records::write_record;
 use events::script::SIZE;
 use events::{Event, Record};
 
 // What was read of a script: how many bytes its events take; or the first line with a fault, from 1, and the fault.
-#[derive(Drop)]
+#[derive(Clone, Copy)]
 pub struct Script {
     pub length: usize,
     pub line: usize,
@@ -19,7 +21,7 @@ pub const BAD_FORM: u8 = 1;
 pub const BIG_NUMBER: u8 = 2;
 
 // What a line says: an event of kind 0 is none.
-#[derive(Drop)]
+#[derive(Clone, Copy)]
 struct Said {
     fault: u8,
     turn: u32,
@@ -27,7 +29,7 @@ struct Said {
 }
 
 // A whole number: its sign, and its size.
-#[derive(Drop)]
+#[derive(Clone, Copy)]
 pub struct Number {
     pub fault: u8,
     pub negative: bool,

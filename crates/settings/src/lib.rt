@@ -1,4 +1,6 @@
 // Settings files: A, D, VI and VM of a drive, in two editions, read and written.
+#![tactic(auto)]
+
 ghost use Rattle.std.specs.Prelude.{◌≡◌, cond, ◌+◌, ◌≤◌, length};
 ghost use mathlib.Core.List.{flat_map};
 ghost use Rattle.std.proofs.lemmas.List.Edits.{sets};
@@ -13,7 +15,7 @@ use program::Variable;
 pub mod layout;
 
 // The four values, by their names.
-#[derive(Drop)]
+#[derive(Clone, Copy)]
 pub struct Settings {
     pub a: i32,
     pub d: i32,
@@ -22,7 +24,7 @@ pub struct Settings {
 }
 
 // Some of the four names.
-#[derive(Drop)]
+#[derive(Clone, Copy)]
 pub struct Chosen {
     pub a: bool,
     pub d: bool,
@@ -31,21 +33,21 @@ pub struct Chosen {
 }
 
 // What a reader shows: the finished set, and the number 0; or what was given, and the refusal.
-#[derive(Drop)]
+#[derive(Clone, Copy)]
 pub struct Shown {
     pub settings: Settings,
     pub number: u8,
 }
 
 // Number 0, and the length of the file that was written; or the refusal.
-#[derive(Drop)]
+#[derive(Clone, Copy)]
 pub struct Written {
     pub length: usize,
     pub number: u8,
 }
 
 // Eight bytes of an edition 2 file: the number of a variable, zeros, a value.
-#[derive(Drop)]
+#[derive(Clone, Copy)]
 pub struct Pair {
     pub value: i32,
     pub number: u16,

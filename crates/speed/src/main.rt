@@ -2,6 +2,8 @@
 // what is repeated, and how many times: `translate` takes the largest program with its names declared behind all statements, `half` and
 // `quarter` so much of it; `check`, `list` and `run` take the largest program, `calls` runs one that calls and returns, `compare` takes as
 // many records as there may be, and `settings` writes a file of settings and reads it back. A call that is refused is the last, and its number is written in place of the sum.
+#![tactic(auto)]
+
 mod build;
 mod sums;
 

@@ -1,4 +1,6 @@
 // What the tool says, put into lines: words, and bytes of files as people can read them.
+#![tactic(auto)]
+
 pub mod differences;
 pub mod given;
 mod hints;
@@ -13,7 +15,7 @@ use parts::{Line, Page, writing};
 use settings::{Chosen, Settings};
 
 // How far a run is told: the next turn, event and record, and the line before them.
-#[derive(Drop)]
+#[derive(Clone, Copy)]
 pub struct Mark {
     pub turn: usize,
     pub event: usize,
@@ -22,14 +24,14 @@ pub struct Mark {
 }
 
 // What is listed where two runs are compared.
-#[derive(Drop)]
+#[derive(Clone, Copy)]
 pub struct Entry {
     pub number: usize,
     pub sum: u32,
 }
 
 // What is asked of a settings file: values, and the names that they are for; and the number of the words for what is wrong, 0 where nothing is.
-#[derive(Drop)]
+#[derive(Clone, Copy)]
 pub struct Asked {
     pub settings: Settings,
     pub which: Chosen,
@@ -38,7 +40,7 @@ pub struct Asked {
 
 // The column of what is wrong, from 1; the number of its words, 0 where there are none; and the key of the name that they speak of, or the
 // edition or the length.
-#[derive(Drop)]
+#[derive(Clone, Copy)]
 pub struct Hint {
     pub column: usize,
     pub number: u32,

@@ -1,4 +1,6 @@
 // A program text: its lines; and where the first fault in it is.
+#![tactic(auto)]
+
 ghost use Rattle.std.specs.Prelude.{◌≡◌, ◌+◌, ◌≤◌, ◌<◌, length, drop, get_or};
 ghost use Rattle.text.specs.Faults.{long_line};
 ghost use Rattle.text.specs.Code.{at_end, line_length, ending_length, LineAt};
@@ -6,14 +8,14 @@ ghost use Rattle.text.specs.Code.{at_end, line_length, ending_length, LineAt};
 pub mod tokens;
 
 // The first faulty line, from 1, with its lowest fault number; both 0 where no line has a fault.
-#[derive(Drop)]
+#[derive(Clone, Copy)]
 pub struct Fault {
     pub number: u8,
     pub line: usize,
 }
 
 // Where a line of a text ends, without its ending, and where the next one starts.
-#[derive(Drop)]
+#[derive(Clone, Copy)]
 pub struct Span {
     pub end: usize,
     pub next: usize,

@@ -12,7 +12,7 @@ const BYTE: u16 = 256;
 
 // A token: its characters as a key, 0 where there are more than two; whether they are at most `MOST_DIGITS` digits, and the number that these write;
 // and whether another token follows it directly.
-#[derive(Drop)]
+#[derive(Clone, Copy)]
 pub struct Token {
     pub value: u64,
     pub key: u16,
@@ -21,14 +21,14 @@ pub struct Token {
 }
 
 // The first tokens of a line, at most `MOST`, which are more than any statement has. The places behind them hold none; no form looks further.
-#[derive(Drop)]
+#[derive(Clone, Copy)]
 pub struct Tokens {
     pub at: [Token; 12],
     pub count: usize,
 }
 
 // The characters of a token that are read so far.
-#[derive(Drop)]
+#[derive(Clone, Copy)]
 pub struct Word {
     pub size: usize,
     pub key: u16,

@@ -1,4 +1,6 @@
 // The image of a text, written from its lines.
+#![tactic(auto)]
+
 ghost use Rattle.std.specs.Prelude.{◌≡◌, ◌++◌, ◌≤◌, length, drop};
 ghost use Rattle.program.specs.Code.{name_of};
 ghost use Rattle.text.specs.Faults.{said, first_fault};
@@ -15,7 +17,7 @@ use reading::Reading;
 use rows::Row;
 
 // Where the next cell, label record and variable record of an image go.
-#[derive(Drop)]
+#[derive(Clone, Copy)]
 pub struct Places {
     pub cell: usize,
     pub label: usize,
@@ -181,7 +183,7 @@ pub fn write_image(s: &[u8], rows: &[Row], buffer: &mut [u8], counts: Counts)
 }
 
 // A line of a text, counted from 1, and where its bytes start and end, without its ending. All is 0 where there is no such line.
-#[derive(Drop)]
+#[derive(Clone, Copy)]
 pub struct Placed {
     pub line: usize,
     pub start: usize,

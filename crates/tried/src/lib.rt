@@ -1,4 +1,6 @@
 // A text tried at once: translated, then run.
+#![tactic(auto)]
+
 ghost use Rattle.std.specs.Prelude.{◌≡◌};
 ghost use Rattle.tried.specs.Trying.{Tries};
 ghost use Rattle.tried.specs.Visiting.{visit_refused, Visited};
@@ -7,7 +9,7 @@ use bench::{Ran, Translated};
 use events::script::{event_count, first_bad_event, is_bad_script};
 
 // The answer to translating, and that to running the image; where the text is refused there is no image, and the run is refused too.
-#[derive(Drop)]
+#[derive(Clone, Copy)]
 pub struct Tried {
     pub translated: Translated,
     pub ran: Ran,

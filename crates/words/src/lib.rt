@@ -1,6 +1,8 @@
 // The bench's words: what each number of an answer means, what the tool says, and how it is used. A table of lines, and a text.
 
 // The kinds of line, by the second letter of their first word.
+#![tactic(auto)]
+
 pub const REFUSAL: u8 = b'e';
 
 pub const ERROR: u8 = b'r';
