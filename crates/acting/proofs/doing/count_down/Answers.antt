@@ -1,0 +1,11 @@
+-- `count_down` meets its contract: one less than what was read is stored.
+-- Assumes nothing.
+use native.Mathlib.Omega.{arith}
+use Rattle.program.proofs.Results.{got32, got64}
+use Rattle.acting.proofs.doing.count_down.Goals as goal
+
+pub returns : goal.returns
+returns c =
+    let x = c.read in
+    let r = c.difference in
+    simp (got64 _ _ r.type-inv (simp (got32 _ _ x.type-inv x.ensures) at r.ensures)) at c.storing_result.ensures

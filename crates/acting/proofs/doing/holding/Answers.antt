@@ -1,0 +1,37 @@
+-- `holding` meets its contract: what is in the range of a hold is a number of turns above 0.
+-- Assumes nothing.
+use mathlib.Core.Path.{◌≡◌}
+use native.Mathlib.Omega.{arith}
+use borrow.Author.Tests.{le-ltb}
+use Rattle.numbers.proofs.Kit.{tests, wide, back32, back64}
+use Rattle.program.specs.Variables.{hold_range}
+use Rattle.program.specs.Variables.{in_range}
+use Rattle.effects.specs.Effects.{holding}
+use Rattle.program.proofs.Results.{tested, held, failed}
+use Rattle.acting.proofs.Kit.{turns_fit, turns_some}
+use Rattle.acting.proofs.doing.holding.Goals as goal
+
+-- the test, in the words of specs/
+in_range : (c : goal.After-holds) → c.holds.result ≡ in_range hold_range c.args.x
+in_range c = tested c.holds.ensures c.hold_range.ensures (back64 c.ranges.x)
+
+pub returns-then-hold-gt0 : goal.returns-then-hold-gt0
+unfolding holding
+returns-then-hold-gt0 c = search tests
+
+pub overflow_cast-x : goal.overflow_cast-x
+overflow_cast-x c = wide c.ranges.x
+
+pub overflow_cast-result : goal.overflow_cast-result
+overflow_cast-result c = turns_fit c.ranges.x (held (in_range c) c.if-holds.true)
+
+pub overflow_sub-result-then-holds : goal.overflow_sub-result-then-holds
+overflow_sub-result-then-holds c = turns_some c.ranges.x (held (in_range c) c.if-holds.true)
+
+pub returns-then-holds : goal.returns-then-holds
+unfolding holding
+returns-then-holds c = simp (le-ltb _ _ c.if-hold-gt0.false, back32 c.ranges.x, held (in_range c) c.if-holds.true)
+
+pub returns : goal.returns
+unfolding holding
+returns c = simp (le-ltb _ _ c.if-hold-gt0.false, failed (in_range c) c.if-holds.false)

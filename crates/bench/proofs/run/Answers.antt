@@ -1,0 +1,61 @@
+-- `run` meets its contract: each refusal behind the tests before it, then the course of the image.
+use mathlib.Core.Path.{◌≡◌, refl, sym, ◌∙◌}
+use mathlib.Core.Bool.{false}
+use Prim.Native.Nat.{ℕ, ◌<◌}
+use native.Mathlib.Omega.{arith}
+use Rattle.image.specs.Check.{checked}
+use Rattle.events.specs.Events.{bad_script, bad_events, event_count}
+use Rattle.running.proofs.Scripts.{few_events}
+use Rattle.bench.proofs.Refusals.{refused_image, refused_script, refused_event, no_bad_event, refused_budget, refused_room, ran_as_lem}
+use Rattle.bench.proofs.run.Reads as reads
+use Rattle.bench.proofs.run.Lts as lts
+use Rattle.bench.proofs.answers.refused.Reads as refused-reads
+use Rattle.bench.proofs.answers.state_of.Reads as state-of-reads
+use Rattle.checking.proofs.checked.Reads as checked-reads
+use Rattle.events.proofs.script.event_count.Reads as event-count-reads
+use Rattle.events.proofs.script.first_bad_event.Reads as first-bad-event-reads
+use Rattle.events.proofs.script.is_bad_script.Reads as is-bad-script-reads
+use Rattle.running.proofs.course.Reads as course-reads
+use Rattle.bench.proofs.run.Goals as goal
+
+-- the image is accepted; the script is whole; its events are good
+good_image : (c : goal.Else-number-ne0) → checked c.args.image.now ≡ 0
+good_image c = sym c.checked-number.ensures ∙ c.if-number-ne0.false
+
+whole : (c : goal.Else-is_bad_script) → bad_script c.args.events.now ≡ false
+whole c = sym c.is_bad_script.ensures ∙ c.if-is_bad_script.false
+
+counted : (c : goal.After-event_count) {n : ℕ} → n < c.event_count.result → n < event_count c.args.events.now
+counted c h = rw c.event_count.ensures at h
+
+fine : (c : goal.Else-bad-event_count) → bad_events c.args.events.now ≡ false
+fine c = no_bad_event _ c.first_bad_event-bad.ensures (rw c.event_count.ensures at c.if-bad-event_count.false)
+
+pub returns-then-number-ne0 : goal.returns-then-number-ne0
+returns-then-number-ne0 c = refused_image _ _ _ _ c.checked-number.ensures c.if-number-ne0.true c.refused.ensures
+
+pub returns-then-is_bad_script : goal.returns-then-is_bad_script
+returns-then-is_bad_script c = refused_script _ _ _ _ (good_image c) (sym c.is_bad_script.ensures ∙ c.if-is_bad_script.true) c.refused-then-is_bad_script.ensures
+
+pub first_bad_event-bad-requires : goal.first_bad_event-bad-requires
+first_bad_event-bad-requires c = few_events _ (whole c)
+
+pub returns-then-bad-event_count : goal.returns-then-bad-event_count
+returns-then-bad-event_count c =
+    refused_event _ _ _ _ (good_image c) (whole c) c.first_bad_event-bad.ensures (counted c c.if-bad-event_count.true) c.refused-then-bad-event_count.ensures
+
+pub returns-then-budget-gt-MOST_TURNS : goal.returns-then-budget-gt-MOST_TURNS
+returns-then-budget-gt-MOST_TURNS c =
+    refused_budget _ _ _ _ (good_image c) (whole c) (fine c) c.if-budget-gt-MOST_TURNS.true c.refused-then-budget-gt-MOST_TURNS.ensures
+
+pub returns-then-records-budget : goal.returns-then-records-budget
+returns-then-records-budget c =
+    refused_room _ _ _ _ (good_image c) (whole c) (fine c) c.if-budget-gt-MOST_TURNS.false c.if-records-budget.true c.refused-then-records-budget.ensures
+
+pub course-ended-requires : goal.course-ended-requires
+course-ended-requires c =
+    (whole c, fine c, c.if-records-budget.false)
+
+pub returns : goal.returns
+returns c =
+    ran_as_lem _ _ _ _ (good_image c) (whole c) (fine c) c.if-budget-gt-MOST_TURNS.false c.if-records-budget.false c.course-ended.ensures c.state_of-state.ensures refl

@@ -1,0 +1,8 @@
+-- `bad_cell` meets its contract: no layout fits the fields.
+-- Assumes nothing.
+use borrow.Author.Rules.{rules}
+use Rattle.cells.proofs.Layouts.{cell_judged_by}
+use Rattle.cells.proofs.bad_cell.Goals as goal
+
+pub returns : goal.returns
+returns c = cell_judged_by _ _ c.requires.1 c.fields_at-f.ensures c.good_target-aimed.ensures c.has_layout.ensures

@@ -1,0 +1,64 @@
+-- `fits` meets its contract: the tests come in the order of `fits_of`.
+-- Assumes nothing.
+use borrow.Author.Tests.{eq-eqb, ne_eqb}
+use Rattle.cells.specs.Code.{use_of, fits_of}
+use Rattle.image.proofs.Any.{told_true, told_false}
+use Rattle.cells.proofs.fits.Goals as goal
+
+pub returns-then-f-u : goal.returns-then-f-u
+unfolding fits_of use_of
+returns-then-f-u c = rw (ne_eqb _ _ c.if-f-u.true)
+
+pub returns-then-not-good_written : goal.returns-then-not-good_written
+unfolding fits_of use_of
+returns-then-not-good_written c = rw (eq-eqb _ _ c.if-f-u.false, told_false c.good_written.ensures c.if-not-good_written.true)
+
+pub returns-then-not-good_selector : goal.returns-then-not-good_selector
+unfolding fits_of use_of
+returns-then-not-good_selector c =
+    rw (eq-eqb _ _ c.if-f-u.false, told_true c.good_written.ensures c.if-not-good_written.false, told_false c.good_selector.ensures c.if-not-good_selector.true)
+
+pub returns-then-not-good_operand : goal.returns-then-not-good_operand
+unfolding fits_of use_of
+returns-then-not-good_operand c =
+    rw (
+      eq-eqb _ _ c.if-f-u.false,
+      told_true c.good_written.ensures c.if-not-good_written.false,
+      told_true c.good_selector.ensures c.if-not-good_selector.false,
+      told_false c.good_operand.ensures c.if-not-good_operand.true,
+    )
+
+pub returns-then-not-good_operand-2 : goal.returns-then-not-good_operand-2
+unfolding fits_of use_of
+returns-then-not-good_operand-2 c =
+    rw (
+      eq-eqb _ _ c.if-f-u.false,
+      told_true c.good_written.ensures c.if-not-good_written.false,
+      told_true c.good_selector.ensures c.if-not-good_selector.false,
+      told_true c.good_operand.ensures c.if-not-good_operand.false,
+      told_false c.good_operand-2.ensures c.if-not-good_operand-2.true,
+    )
+
+pub returns-then-u : goal.returns-then-u
+unfolding fits_of use_of
+returns-then-u c =
+    rw (
+      eq-eqb _ _ c.if-f-u.false,
+      told_true c.good_written.ensures c.if-not-good_written.false,
+      told_true c.good_selector.ensures c.if-not-good_selector.false,
+      told_true c.good_operand.ensures c.if-not-good_operand.false,
+      told_true c.good_operand-2.ensures c.if-not-good_operand-2.false,
+      c.if-u.true,
+    )
+
+pub returns : goal.returns
+unfolding fits_of use_of
+returns c =
+    rw (
+      eq-eqb _ _ c.if-f-u.false,
+      told_true c.good_written.ensures c.if-not-good_written.false,
+      told_true c.good_selector.ensures c.if-not-good_selector.false,
+      told_true c.good_operand.ensures c.if-not-good_operand.false,
+      told_true c.good_operand-2.ensures c.if-not-good_operand-2.false,
+      c.if-u.false,
+    )

@@ -1,0 +1,31 @@
+-- `bad_targets` meets its contract: the loop searches the label records. The invariant: none was found before.
+-- Assumes nothing.
+use mathlib.Core.Bool.{false}
+use mathlib.Core.Path.{◌≡◌}
+use Prim.Native.Nat.{◌≤◌, ◌-◌}
+use native.Mathlib.Omega.{arith}
+use borrow.Author.Rules.{rules}
+use Rattle.numbers.specs.Tests.{any_below}
+use Rattle.image.specs.Check.{bad_target}
+use Rattle.image.specs.Layout.{label_target, label_place}
+use Rattle.image.specs.Code.{target_of}
+use Rattle.checking.specs.Code.{bad_target_of}
+use Rattle.image.proofs.Any.{none_yet, one_more, that_is, all_without}
+use Rattle.checking.proofs.bad_targets.Goals as goal
+
+-- what a turn looks at
+looked : (c : goal.After-bad_target invariant-loop decreases-loop) → c.bad_target.result ≡ bad_target c.args.s.now c.loop-k.k
+unfolding bad_target bad_target_of label_target label_place target_of
+looked c = rw (c.bad_target.ensures, c.cell_count-cells.ensures)
+
+pub loop-k-init : goal.loop-k-init
+loop-k-init c = (omega arith, none_yet _)
+
+pub returns-then-bad_target : goal.returns-then-bad_target
+returns-then-bad_target c = that_is _ c.loop-k.k c.label_count-labels.ensures c.loop-k-test.true (looked c) c.if-bad_target.true
+
+pub loop-k-preserved : goal.loop-k-preserved
+loop-k-preserved c = (omega arith, one_more _ c.loop-k.k c.loop-k.invariant.1 (looked c) c.if-bad_target.false)
+
+pub returns : goal.returns
+returns c = all_without _ c.loop-k.k c.label_count-labels.ensures c.loop-k.invariant.0 c.loop-k-test.false c.loop-k.invariant.1

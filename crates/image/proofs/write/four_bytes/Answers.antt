@@ -1,0 +1,8 @@
+-- `write::four_bytes` meets its contract: by the law for two numbers.
+-- Assumes nothing.
+use native.Mathlib.Omega.{arith}
+use Rattle.numbers.proofs.Laws.{bytes_two}
+use Rattle.image.proofs.write.four_bytes.Goals as goal
+
+pub returns : goal.returns
+returns c = bytes_two 2 2 c.args.low c.args.high (omega arith)

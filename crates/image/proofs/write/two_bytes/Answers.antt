@@ -1,0 +1,8 @@
+-- `write::two_bytes` meets its contract: by the law for two numbers.
+-- Assumes nothing.
+use native.Mathlib.Omega.{arith}
+use Rattle.numbers.proofs.Laws.{bytes_two}
+use Rattle.image.proofs.write.two_bytes.Goals as goal
+
+pub returns : goal.returns
+returns c = bytes_two 1 1 c.args.low c.args.high (omega arith)

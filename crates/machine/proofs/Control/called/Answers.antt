@@ -1,0 +1,9 @@
+-- `Control::called` meets its contract: by what `keep` ensures.
+-- Assumes nothing.
+use native.Mathlib.Omega.{arith}
+use Rattle.machine.specs.Turn.{called}
+use Rattle.machine.proofs.Control.called.Goals as goal
+
+pub returns : goal.returns
+unfolding called
+returns c = λ vars. rw (c.keep-self.ensures, c.by_call.ensures)

@@ -1,0 +1,9 @@
+-- `Control::returned` meets its contract: by what `last_place`, `rearmed` and `release` ensure.
+-- Assumes nothing.
+use native.Mathlib.Omega.{arith}
+use Rattle.machine.specs.Turn.{returned}
+use Rattle.machine.proofs.Control.returned.Goals as goal
+
+pub returns : goal.returns
+unfolding returned
+returns c = λ vars. rw (c.rearmed.ensures, c.last_place-place.ensures, c.release-self.ensures)

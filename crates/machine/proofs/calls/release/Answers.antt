@@ -1,0 +1,15 @@
+-- `release` meets its contract: past the last place nothing is set.
+-- Assumes nothing.
+use native.Mathlib.Omega.{arith}
+use borrow.Author.Rules.{rules}
+use Rattle.numbers.proofs.Kit.{length_held, array_set_out}
+use Rattle.machine.specs.Turn.{release}
+use Rattle.machine.proofs.calls.release.Goals as goal
+
+pub returns-then-last-ge-MOST : goal.returns-then-last-ge-MOST
+unfolding release
+returns-then-last-ge-MOST c = rw (array_set_out _ c.args.places.all 8 _ _ (search (rules, length_held)) c.if-last-ge-MOST.true)
+
+pub returns : goal.returns
+unfolding release
+returns c = rw c.by_call.ensures

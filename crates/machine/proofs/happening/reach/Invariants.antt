@@ -1,0 +1,24 @@
+-- `reach` meets its contract. The invariant: what the events left do to the machine here, all of them do to the machine at the start.
+-- Assumes nothing.
+use mathlib.Core.Path.{◌≡◌, refl, ◌∙◌}
+use mathlib.Core.Bool.{true}
+use mathlib.Core.List.{[]}
+use Prim.Native.Nat.{◌-◌, ◌≤◌}
+use native.Mathlib.Omega.{arith}
+use lib.ListN.{length}
+use Rattle.machine.specs.declared.Machine.{Machine}
+use Rattle.machine.specs.Turn.{start_machine}
+use Rattle.events.specs.Events.{good_event}
+use Rattle.machine.specs.Code.{Inputs, moving, acts}
+use Rattle.machine.proofs.Inputs.{inputs_happened, size_happened}
+use Rattle.events.proofs.Scripts.{good_events}
+use Rattle.machine.proofs.Starting.{acts_more}
+use Rattle.machine.proofs.happening.reach.Given as goal
+
+abbrev pub invariant-loop-k : goal.invariant-loop-k
+invariant-loop-k l = (l.first ≤ l.k) × (l.k ≤ l.last) × Inputs l.vars
+    × ((m : Machine) → acts l.events l.k (l.last - l.k) (moving l.vars l.here m) ≡ acts l.events l.first (l.last - l.first) (moving l.initial.vars l.initial.here m))
+    × (length l.vars ≡ length l.initial.vars)
+
+abbrev pub decreases-loop-k : goal.decreases-loop-k
+decreases-loop-k l = l.last - l.k

@@ -1,0 +1,11 @@
+-- `field` is safe and ends.
+-- Assumes nothing.
+use Prim.Native.Nat.{◌-◌}
+use native.Mathlib.Omega.{arith}
+use Rattle.parts.proofs.Line.field.Given as goal
+
+abbrev pub invariant-loop : goal.invariant-loop
+invariant-loop l = Unit {0}
+
+abbrev pub decreases-loop : goal.decreases-loop
+decreases-loop l = l.width - l.counter

@@ -1,0 +1,11 @@
+-- `repeated` is safe and ends.
+-- Assumes nothing.
+use Prim.Native.Nat.{◌-◌}
+use native.Mathlib.Omega.{arith}
+use Rattle.parts.proofs.Line.repeated.Given as goal
+
+abbrev pub invariant-loop : goal.invariant-loop
+invariant-loop l = Unit {0}
+
+abbrev pub decreases-loop : goal.decreases-loop
+decreases-loop l = l.count - l.counter

@@ -1,0 +1,11 @@
+-- `firsts` meets its contract. The loop's invariant: entering the records that are left gives the whole.
+-- Assumes nothing.
+use native.Mathlib.Omega.{arith}
+use Rattle.printing.proofs.Targets.{name_known, target_known, Entering, entering, entering_more, entering_past, entered_all}
+use Rattle.printing.proofs.labels.firsts.Given as goal
+
+abbrev pub invariant-loop-k : goal.invariant-loop-k
+invariant-loop-k l = Entering l.image l.firsts l.k
+
+abbrev pub decreases-loop-k : goal.decreases-loop-k
+decreases-loop-k l = l.k

@@ -1,0 +1,18 @@
+-- `Variable::key` meets its contract: the table holds the paper's names in their order, two bytes each.
+-- Assumes nothing.
+use mathlib.Core.Path.{refl, ap, ◌∙◌}
+use mathlib.Core.List.{[]}
+use Prim.Native.Nat.{ℕ}
+use borrow.Author.Rules.{rules}
+use lib.ListN.{get_or}
+use Rattle.numbers.specs.Bytes.{ascii, number}
+use Rattle.program.specs.Names.{variable_names}
+use Rattle.program.specs.Code.{key, name_of, names_of}
+use Rattle.program.proofs.Places.{key_at_lem}
+use Rattle.program.proofs.Variable.key.Goals as goal
+
+pub returns : goal.returns
+unfolding variable_names ascii names_of name_of number
+returns c =
+    c.read2.ensures ∙ key_at_lem _ _ refl
+    ∙ ap (λ (i : ℕ). key (get_or variable_names i [])) c.one_less-place.ensures

@@ -1,0 +1,9 @@
+-- `is_digit` meets its contract.
+-- Assumes nothing.
+use mathlib.Core.Path.{refl}
+use Rattle.program.specs.Names.{digit}
+use Rattle.program.proofs.names.is_digit.Goals as goal
+
+pub returns : goal.returns
+unfolding digit
+returns c = refl

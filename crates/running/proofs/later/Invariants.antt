@@ -1,0 +1,17 @@
+-- `later` meets its contract. The invariant: the events passed are of the turn.
+-- Assumes nothing.
+use mathlib.Core.Path.{◌≡◌, sym, ap, ◌∙◌}
+use Prim.Native.Nat.{ℕ, ◌-◌, ◌≤◌, ◌<◌}
+use native.Mathlib.Omega.{arith}
+use borrow.Author.Count.{below_more}
+use borrow.Author.Rules.{rules}
+use Rattle.events.specs.declared.Event.{Event}
+use Rattle.events.specs.Events.{event_at}
+use Rattle.running.proofs.Scripts.{due_before, due_all}
+use Rattle.running.proofs.later.Given as goal
+
+abbrev pub invariant-loop-k : goal.invariant-loop-k
+invariant-loop-k l = (l.k ≤ l.count) × (l.first ≤ l.k) × ((j : ℕ) → j < l.k → l.first ≤ j → (event_at l.events j).turn ≡ l.turn)
+
+abbrev pub decreases-loop-k : goal.decreases-loop-k
+decreases-loop-k l = l.count - l.k

@@ -1,0 +1,17 @@
+-- `visit` meets its contract. The invariant: the places still to come, behind those in the buffer, give the whole.
+-- Assumes nothing.
+use mathlib.Core.Path.{◌∙◌}
+use Prim.Native.Nat.{◌-◌}
+use native.Mathlib.Omega.{arith}
+use borrow.Author.Rules.{rules}
+use Rattle.running.specs.Code.{SteppedBy}
+use Rattle.running.proofs.Scripts.{few_events}
+use Rattle.running.proofs.Turns.{stepped_by}
+use Rattle.running.proofs.Visits.{Passing, passing, visited_past, visited_spent, visited_stopped, passes_on}
+use Rattle.running.proofs.visit.Given as goal
+
+abbrev pub invariant-loop-taken : goal.invariant-loop-taken
+invariant-loop-taken l = Passing l.image l.events l.budget l.initial.visits l.visits l.machine l.taken l.event
+
+abbrev pub decreases-loop-taken : goal.decreases-loop-taken
+decreases-loop-taken l = l.budget - l.taken

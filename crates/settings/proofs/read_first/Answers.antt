@@ -1,0 +1,6 @@
+-- `read_first` meets its contract.
+-- Assumes nothing.
+use Rattle.settings.proofs.read_first.Goals as goal
+
+pub returns : goal.returns
+returns c = record { answers = c.read_up_to.ensures }

@@ -1,0 +1,59 @@
+-- `read_up_to` meets its contract: refused by its length, its edition, its layout or the finished set, or accepted.
+-- Assumes nothing.
+use mathlib.Core.Path.{◌≡◌, sym, ap, ◌∙◌}
+use mathlib.Core.Bool.{false, ◌&&◌, ◌||◌}
+use Prim.Native.Nat.{ℕ, ◌≤◌}
+use native.Mathlib.Omega.{arith}
+use borrow.Author.Rules.{rules}
+use borrow.Author.Tests.{ltb-false, not-true, not-false}
+use lib.Dec.{leb, ltb}
+use lib.ListN.{length}
+use Rattle.numbers.proofs.Kit.{back32}
+use Rattle.numbers.proofs.Truth.{neither}
+use Rattle.settings.specs.Calls.{shown}
+use Rattle.settings.proofs.Cases.{number_41, number_42, number_43, number_44, number_0, gives_refused, gives_accepted}
+use Rattle.settings.proofs.Loops.{within_tested}
+use Rattle.settings.proofs.read_up_to.Goals as goal
+
+-- a file that is no shorter and no longer than it may be
+long : {s : ℕ} → (ltb s 8 || ltb 40 s) ≡ false → (8 ≤ s) × (s ≤ 65535)
+long {s} e = let n = neither (ltb s 8) (ltb 40 s) e in omega (arith, ltb-false s 8 n.0, ltb-false 40 s n.1)
+
+pub returns-then-s : goal.returns-then-s
+returns-then-s c = gives_refused _ _ _ (number_41 _ _ _ c.if-s.true) (λ z. omega arith) c.refused.ensures
+
+pub returns-then-not-edition-last : goal.returns-then-not-edition-last
+returns-then-not-edition-last c =
+    let last = c.args.last in
+    let known = ap (λ (k : ℕ). leb 1 k && leb k last) (sym c.edition-edition.ensures) in
+    gives_refused _ _ _ (number_42 _ _ _ c.if-s.false (known ∙ not-true _ c.if-not-edition-last.true)) (λ z. omega arith) c.refused-then-not-edition-last.ensures
+
+pub returns-then-not-is_laid_out : goal.returns-then-not-is_laid_out
+returns-then-not-is_laid_out c =
+    let last = c.args.last in
+    let known = ap (λ (k : ℕ). leb 1 k && leb k last) (sym c.edition-edition.ensures) in
+    gives_refused _ _ _
+    (number_43 _ _ _ c.if-s.false (known ∙ not-false _ c.if-not-edition-last.false) (sym c.is_laid_out.ensures ∙ not-true _ c.if-not-is_laid_out.true))
+    (λ z. omega arith) c.refused-then-not-is_laid_out.ensures
+
+pub returns-then-not-are_within : goal.returns-then-not-are_within
+returns-then-not-are_within c =
+    let last = c.args.last in
+    let known = ap (λ (k : ℕ). leb 1 k && leb k last) (sym c.edition-edition.ensures) in
+    let tested =
+    within_tested c.are_within.ensures (back32 (search (rules, c.struct_told-1.given))) (back32 (search (rules, c.struct_told-2-1.given))) c.finished-settings.ensures in
+    gives_refused _ _ _
+    (number_44 _ _ _ c.if-s.false (known ∙ not-false _ c.if-not-edition-last.false) (sym c.is_laid_out.ensures ∙ not-false _ c.if-not-is_laid_out.false)
+    (tested ∙ not-true _ c.if-not-are_within.true))
+    (λ z. omega arith) c.refused-then-not-are_within.ensures
+
+pub returns : goal.returns
+returns c =
+    let last = c.args.last in
+    let known = ap (λ (k : ℕ). leb 1 k && leb k last) (sym c.edition-edition.ensures) in
+    let tested =
+    within_tested c.are_within.ensures (back32 (search (rules, c.struct_told-1.given))) (back32 (search (rules, c.struct_told-2-1.given))) c.finished-settings.ensures in
+    gives_accepted _ _ _
+    (number_0 _ _ _ c.if-s.false (known ∙ not-false _ c.if-not-edition-last.false) (sym c.is_laid_out.ensures ∙ not-false _ c.if-not-is_laid_out.false)
+    (tested ∙ not-false _ c.if-not-are_within.false))
+    (ap (shown 0) c.finished-settings.ensures)

@@ -1,0 +1,16 @@
+-- `line_end` meets its contract. The loop's invariant: what is left of the line from here gives the whole.
+-- Assumes nothing.
+use Prim.Native.Nat.{◌≤◌, ◌+◌, ◌-◌}
+use lib.ListN.{length, drop}
+use mathlib.Core.Path.{◌≡◌, sym, ◌∙◌}
+use native.Mathlib.Numerals.{add-one}
+use native.Mathlib.Omega.{arith}
+use Rattle.text.specs.Code.{line_length}
+use Rattle.text.proofs.Lines.{length_more, length_stop, length_end}
+use Rattle.text.proofs.line_end.Given as goal
+
+abbrev pub invariant-loop-end : goal.invariant-loop-end
+invariant-loop-end l = (l.end ≤ length l.s) × (l.end + line_length (drop l.end l.s) ≡ l.at + line_length (drop l.at l.s))
+
+abbrev pub decreases-loop-end : goal.decreases-loop-end
+decreases-loop-end l = length l.s - l.end

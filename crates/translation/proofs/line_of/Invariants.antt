@@ -1,0 +1,13 @@
+-- `line_of` meets its contract. The loop's invariant: seeking from here on, with these cells to pass, finds what seeking in the whole text does.
+-- Assumes nothing.
+use Prim.Native.Nat.{◌+◌, ◌-◌}
+use lib.ListN.{length}
+use native.Mathlib.Omega.{arith}
+use Rattle.translation.proofs.Seeking.{Sought, sought_first, sought_more, placed_here, placed_none}
+use Rattle.translation.proofs.line_of.Given as goal
+
+abbrev pub invariant-loop-at : goal.invariant-loop-at
+invariant-loop-at l = Sought l.s l.place l.left l.line l.at
+
+abbrev pub decreases-loop-at : goal.decreases-loop-at
+decreases-loop-at l = length l.s + 1 - l.at

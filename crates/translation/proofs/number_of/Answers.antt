@@ -1,0 +1,23 @@
+-- `number_of` meets its contract.
+-- Assumes nothing.
+use native.Mathlib.Omega.{arith}
+use Rattle.program.specs.Code.{name_of}
+use Rattle.program.proofs.Places.{paper_most}
+use Rattle.translation.proofs.Writing.{number_user, number_paper, place_low}
+use borrow.Author.Rules.{rules}
+use Rattle.translation.proofs.number_of.Goals as goal
+
+pub overflow_cast-result-then-row-eq-VARIABLE : goal.overflow_cast-result-then-row-eq-VARIABLE
+overflow_cast-result-then-row-eq-VARIABLE c = omega (arith, place_low _ _ c.look_up-row.ensures c.requires)
+
+pub overflow_add-result : goal.overflow_add-result
+overflow_add-result c = search (rules, place_low _ _ c.look_up-row.ensures c.requires)
+
+pub returns-then-row-eq-VARIABLE : goal.returns-then-row-eq-VARIABLE
+returns-then-row-eq-VARIABLE c = number_user _ _ c.look_up-row.ensures c.if-row-eq-VARIABLE.true
+
+pub overflow_cast-result-2 : goal.overflow_cast-result-2
+overflow_cast-result-2 c = omega (arith, c.number_of.ensures, paper_most (name_of c.args.key))
+
+pub returns : goal.returns
+returns c = number_paper _ _ c.look_up-row.ensures c.if-row-eq-VARIABLE.false c.number_of.ensures

@@ -1,0 +1,8 @@
+-- `resolve` meets its contract.
+-- Assumes nothing.
+use borrow.Author.Rules.{rules}
+use Rattle.translation.proofs.resolve.Goals as goal
+
+pub returns : goal.returns
+returns c =
+    rw (c.resolve_written-written.ensures, c.resolve_operand-left.ensures, c.resolve_operand-right.ensures, c.resolve_target-target.ensures)
