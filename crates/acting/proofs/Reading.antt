@@ -133,13 +133,10 @@ module _ (c : Cell) {a b : Bool} (ea : a ≡ is_er same (value_of c.left)) (eb :
       pub reads_call : c.operation ≡ 6 → not (eqb c.selector 0) ≡ reads_er same hold (statement_of c)
       reads_call k = reads_by 6 k (asks_call ∙ conditional)
 
--- Effects by their tags: those but an error.
-abbrev pub faultless : List ℕ
-faultless = 1 ∷ 2 ∷ 3 ∷ 4 ∷ 5 ∷ 6 ∷ 7 ∷ 8 ∷ 9 ∷ 10 ∷ 11 ∷ 12 ∷ 13 ∷ []
-
-pub no_error : (does : Effect) → OneOf faultless (tag_of the_type does) → in_error does ≡ false
+-- An effect that is no error.
+pub no_error : (does : Effect) → ((error : ℕ) → does ≡ Fails error → ⊥) → in_error does ≡ false
 unfolding in_error
-no_error (Fails error) h = absurd (miss faultless 0 tt h)
+no_error (Fails error) h = absurd (h error refl)
 no_error (Stores v z) h = refl
 no_error Passes h = refl
 no_error (Goes cell) h = refl

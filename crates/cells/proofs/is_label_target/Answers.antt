@@ -13,7 +13,7 @@ use Rattle.image.proofs.Any.{none_yet, one_more, that_is, all_without}
 use Rattle.cells.proofs.is_label_target.Goals as goal
 
 -- what a turn looks at
-looked : (c : goal.After-target_at invariant-loop decreases-loop)
+looked : (c : goal.After-target_at)
     → eqb c.target_at.result c.args.target ≡ eqb (label_target c.args.s.now c.loop-k.k) c.args.target
 unfolding label_target label_place target_of
 looked c = rw (c.target_at.ensures, c.cell_count-cells.ensures)

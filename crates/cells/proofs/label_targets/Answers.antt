@@ -10,7 +10,7 @@ use Rattle.cells.proofs.Marks.{unmarked, marked_more}
 use Rattle.cells.proofs.label_targets.Goals as goal
 
 -- what a turn marks
-looked : (c : goal.After-target_at invariant-loop decreases-loop)
+looked : (c : goal.After-target_at)
     → c.target_at.result ≡ label_target c.args.s.now c.loop-k.k
 unfolding label_target label_place target_of
 looked c = rw (c.target_at.ensures, c.cell_count-cells.ensures)

@@ -18,11 +18,11 @@ use Rattle.checking.proofs.Keys.{bad_key_lem}
 use Rattle.checking.proofs.bad_names.Goals as goal
 
 -- the records are few
-few : (c : goal.After-variable_count invariant-loop decreases-loop) → c.label_count-labels.result + c.variable_count.result ≤ 192
+few : (c : goal.After-variable_count) → c.label_count-labels.result + c.variable_count.result ≤ 192
 few c = let f = fitting _ c.requires in omega (arith, f.labels, f.variables, c.variable_count.ensures, c.label_count-labels.ensures)
 
 -- what a turn looks at
-looked : (c : goal.After-is_free_name invariant-loop decreases-loop)
+looked : (c : goal.After-is_free_name)
     → bad_key c.cell_count-cells.result c.label_count-labels.result c.args.s.now c.loop-k.k
     ≡ bad_name c.args.s.now c.loop-k.k
 looked c =

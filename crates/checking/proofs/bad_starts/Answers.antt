@@ -14,7 +14,7 @@ use Rattle.image.proofs.Any.{none_yet, one_more, that_is, all_without}
 use Rattle.checking.proofs.bad_starts.Goals as goal
 
 -- what a turn looks at
-looked : (c : goal.After-bad_start invariant-loop decreases-loop) → c.bad_start.result ≡ bad_start c.args.s.now c.loop-k.k
+looked : (c : goal.After-bad_start) → c.bad_start.result ≡ bad_start c.args.s.now c.loop-k.k
 unfolding bad_start bad_start_of start_value variable_place literal_bits
 looked c = rw (c.bad_start.ensures, c.label_count-labels.ensures, c.cell_count-cells.ensures)
 

@@ -14,7 +14,7 @@ use Rattle.image.proofs.Any.{none_yet, one_more, that_is, all_without}
 use Rattle.checking.proofs.bad_targets.Goals as goal
 
 -- what a turn looks at
-looked : (c : goal.After-bad_target invariant-loop decreases-loop) → c.bad_target.result ≡ bad_target c.args.s.now c.loop-k.k
+looked : (c : goal.After-bad_target) → c.bad_target.result ≡ bad_target c.args.s.now c.loop-k.k
 unfolding bad_target bad_target_of label_target label_place target_of
 looked c = rw (c.bad_target.ensures, c.cell_count-cells.ensures)
 

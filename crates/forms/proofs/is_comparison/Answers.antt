@@ -15,4 +15,4 @@ use Rattle.forms.proofs.is_comparison.Goals as goal
 pub returns : goal.returns
 unfolding is_comparison comparison_signs comparison_sign ascii names_of name_of number
 returns c =
-    ap (λ (n : ℕ). not (eqb n 0)) c.IsPlace-in.ensures ∙ sym (comparison_placed (name_of c.args.key)).sign
+    ap (λ (n : ℕ). not (eqb n 0)) c.place_in.ensures ∙ sym (comparison_placed (name_of c.args.key)).sign

@@ -15,4 +15,4 @@ use Rattle.forms.proofs.is_operator.Goals as goal
 pub returns : goal.returns
 unfolding is_operator operator_signs operator_sign ascii names_of name_of number
 returns c =
-    ap (λ (n : ℕ). not (eqb n 0)) c.IsPlace-in.ensures ∙ sym (operator_placed (name_of c.args.key)).sign
+    ap (λ (n : ℕ). not (eqb n 0)) c.place_in.ensures ∙ sym (operator_placed (name_of c.args.key)).sign

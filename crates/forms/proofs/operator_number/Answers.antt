@@ -14,9 +14,9 @@ use Rattle.text.proofs.Signs.{operator_signs, operator_placed, none_found, sign_
 use Rattle.forms.proofs.operator_number.Goals as goal
 
 -- The place that is found is that of the sign.
-at : (c : goal.After-place_in-place) → c.IsPlace-in.result ≡ numbered operator_signs (name_of c.args.key)
+at : (c : goal.After-place_in-place) → c.place_in.result ≡ numbered operator_signs (name_of c.args.key)
 unfolding operator_signs operator_sign ascii names_of name_of number
-at c = c.IsPlace-in.ensures
+at c = c.place_in.ensures
 
 pub returns-then-place-eq0 : goal.returns-then-place-eq0
 unfolding operator_by operator_number

@@ -9,7 +9,7 @@ use Rattle.image.proofs.operand_at.Goals as goal
 
 pub returns-then-shape-eq-LITERAL : goal.returns-then-shape-eq-LITERAL
 unfolding operand_at
-returns-then-shape-eq-LITERAL c = rw c.if-shape-eq-LITERAL.true (ap Literal (back32 (fit32 _ c.signed.type-inv) ∙ c.signed.ensures ∙ ap signed32 c.read4-number.ensures))
+returns-then-shape-eq-LITERAL c = rw c.if-shape-eq-LITERAL.true (ap Literal (back32 (fit32 _ c.signed.type_inv) ∙ c.signed.ensures ∙ ap signed32 c.read4-number.ensures))
 
 pub returns-then-shape-eq-VARIABLE : goal.returns-then-shape-eq-VARIABLE
 unfolding operand_at

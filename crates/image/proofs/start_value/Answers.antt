@@ -9,4 +9,4 @@ use Rattle.image.proofs.start_value.Goals as goal
 
 pub returns : goal.returns
 unfolding start_value variable_place
-returns c = back32 (fit32 c.signed.result c.signed.type-inv) ∙ c.signed.ensures ∙ ap signed32 (rw (c.read4.ensures, c.variable_place-place.ensures, c.label_count.ensures, c.cell_count.ensures))
+returns c = back32 (fit32 c.signed.result c.signed.type_inv) ∙ c.signed.ensures ∙ ap signed32 (rw (c.read4.ensures, c.variable_place-place.ensures, c.label_count.ensures, c.cell_count.ensures))

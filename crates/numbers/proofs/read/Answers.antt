@@ -1,16 +1,14 @@
 -- `read` meets its contract. The loop's invariant: n is the number of the bytes that were passed, from the highest down.
 -- Assumes nothing.
 use mathlib.Core.Path.{◌≡◌}
-use Prim.Native.Nat.{suc, ◌≤◌, ◌<◌, ◌+◌, ◌-◌}
+use Prim.Native.Nat.{suc, ◌<◌, ◌+◌, ◌-◌}
 use native.Mathlib.Nat.{sub_self, add-zero, sub-zero}
 use native.Mathlib.Omega.{arith}
-use borrow.Author.Rules.{rules}
-use Rattle.numbers.specs.Bytes.{field}
 use Rattle.numbers.proofs.Laws.{field_none, read_more, field_seven}
 use Rattle.numbers.proofs.read.Goals as goal
 
 -- what was read before this turn leaves room for a byte
-small : (c : goal.After-byte-b invariant-loop decreases-loop) → c.loop-i.n < 72057594037927936
+small : (c : goal.After-byte-b) → c.loop-i.n < 72057594037927936
 small c =
     let a = c.args in
     let l = c.loop-i in

@@ -1,12 +1,8 @@
 -- `read` meets its contract. The loop's invariant: n is the number of the bytes that were passed, from the highest down.
 -- Assumes nothing.
 use mathlib.Core.Path.{◌≡◌}
-use Prim.Native.Nat.{suc, ◌≤◌, ◌<◌, ◌+◌, ◌-◌}
-use native.Mathlib.Nat.{sub_self, add-zero, sub-zero}
-use native.Mathlib.Omega.{arith}
-use borrow.Author.Rules.{rules}
+use Prim.Native.Nat.{◌≤◌, ◌+◌, ◌-◌}
 use Rattle.numbers.specs.Bytes.{field}
-use Rattle.numbers.proofs.Laws.{field_none, read_more, field_seven}
 use Rattle.numbers.proofs.read.Given as goal
 
 abbrev pub invariant-loop-i : goal.invariant-loop-i

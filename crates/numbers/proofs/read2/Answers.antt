@@ -1,6 +1,5 @@
 -- `read2` meets its contract: a field of 2 bytes is below 256 ^ 2.
 -- Assumes nothing.
-use borrow.Author.Rules.{rules}
 use Rattle.numbers.proofs.Laws.{field_below}
 use Rattle.numbers.proofs.read2.Goals as goal
 

@@ -1,6 +1,5 @@
 -- `read4` meets its contract: a field of 4 bytes is below 256 ^ 4.
 -- Assumes nothing.
-use borrow.Author.Rules.{rules}
 use Rattle.numbers.proofs.Laws.{field_below}
 use Rattle.numbers.proofs.read4.Goals as goal
 

@@ -1,9 +1,8 @@
 -- `write` meets its contract. The loop's invariant: what is still to be written, over what stands there, gives the whole.
 -- Assumes nothing.
-use mathlib.Core.Path.{◌≡◌, refl, sym, ◌∙◌}
+use mathlib.Core.Path.{sym, ◌∙◌}
 use native.Mathlib.Omega.{arith}
-use lib.ListN.{length, length-set}
-use lib.Seq.{sets}
+use lib.ListN.{length-set}
 use Rattle.numbers.specs.Bytes.{bytes}
 use Rattle.numbers.proofs.Laws.{write_more, write_none, sets_out}
 use Rattle.numbers.proofs.write.Goals as goal

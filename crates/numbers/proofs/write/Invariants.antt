@@ -1,11 +1,9 @@
 -- `write` meets its contract. The loop's invariant: what is still to be written, over what stands there, gives the whole.
 -- Assumes nothing.
-use mathlib.Core.Path.{◌≡◌, refl, sym, ◌∙◌}
-use native.Mathlib.Omega.{arith}
-use lib.ListN.{length, length-set}
+use mathlib.Core.Path.{◌≡◌}
+use lib.ListN.{length}
 use lib.Seq.{sets}
 use Rattle.numbers.specs.Bytes.{bytes}
-use Rattle.numbers.proofs.Laws.{write_more, write_none, sets_out}
 use Rattle.numbers.proofs.write.Given as goal
 
 abbrev pub invariant-loop-i : goal.invariant-loop-i

@@ -13,4 +13,4 @@ returns-then-is_reserved c = rw (c.faulty.ensures, sym (c.is_reserved.ensures �
 pub returns : goal.returns
 unfolding declares_by
 returns c =
-    rw (sym (c.is_reserved.ensures ∙ reserved_spelt _) ∙ c.if-is_reserved.false, back32 (fit32 _ c.start_value.type-inv), c.start_value.ensures, c.no_cell.ensures, key_spelt)
+    rw (sym (c.is_reserved.ensures ∙ reserved_spelt _) ∙ c.if-is_reserved.false, back32 (fit32 _ c.start_value.type_inv), c.start_value.ensures, c.no_cell.ensures, key_spelt)

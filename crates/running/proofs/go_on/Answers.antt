@@ -11,7 +11,7 @@ use Rattle.running.proofs.Courses.{Underway, underway, past_last, budget_used, s
 use Rattle.running.proofs.go_on.Goals as goal
 
 -- the turn that was taken
-taken : (c : goal.After-turn-turned invariant-loop decreases-loop)
+taken : (c : goal.After-turn-turned)
     → SteppedBy c.args.image.now c.cell_count-cells.result c.args.events.now c.loop-machine.turns c.loop-machine.event c.loop-machine.machine c.turn-turned.result c.later-left.result
 taken c =
     stepped_by c.requires.1 c.loop-machine.invariant.inputs c.later-left.ensures c.cell_at-cell.ensures c.turn-turned.ensures

@@ -20,7 +20,7 @@ loop-k-preserved c =
     let n = c.variable_count-count in (
       omega arith,
       started_more _ l.k (omega (arith, n.ensures, c.loop-k-test.true)) l.invariant.1
-          (back32 (fit32 _ c.start_value.type-inv) ∙ c.start_value.ensures) c.with_start-machine.ensures,
+          (back32 (fit32 _ c.start_value.type_inv) ∙ c.start_value.ensures) c.with_start-machine.ensures,
     )
 
 pub returns : goal.returns

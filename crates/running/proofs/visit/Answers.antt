@@ -11,7 +11,7 @@ use Rattle.running.proofs.Visits.{Passing, passing, visited_past, visited_spent,
 use Rattle.running.proofs.visit.Goals as goal
 
 -- the turn that was taken
-stepped : (c : goal.After-turn-turned invariant-loop decreases-loop)
+stepped : (c : goal.After-turn-turned)
     → SteppedBy c.args.image.now c.cell_count-cells.result c.args.events.now c.loop-taken.taken c.loop-taken.event c.loop-taken.machine c.turn-turned.result c.later-rest.result
 stepped c =
     stepped_by c.requires.1 c.loop-taken.invariant.inputs c.later-rest.ensures c.cell_at-cell.ensures c.turn-turned.ensures

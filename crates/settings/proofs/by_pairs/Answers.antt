@@ -11,15 +11,15 @@ pub returns : goal.returns
 unfolding by_pairs
 returns c =
     let g = c.args.given in
-    let fa : SFits w32 g.a = fit32 _ c.well-formed.1.0.1.1.0.1 in
-    let fd : SFits w32 g.d = fit32 _ c.well-formed.1.0.1.1.1.0.1 in
-    let fi : SFits w32 g.vi = fit32 _ c.well-formed.1.0.1.1.1.1.0.1 in
-    let fm : SFits w32 g.vm = fit32 _ c.well-formed.1.0.1.1.1.1.1.0.1 in
+    let fa : SFits w32 g.a = fit32 _ c.well_formed.1.0.1.1.0.1 in
+    let fd : SFits w32 g.d = fit32 _ c.well_formed.1.0.1.1.1.0.1 in
+    let fi : SFits w32 g.vi = fit32 _ c.well_formed.1.0.1.1.1.1.0.1 in
+    let fm : SFits w32 g.vm = fit32 _ c.well_formed.1.0.1.1.1.1.1.0.1 in
     rw (
-      got32 _ _ c.under.type-inv c.under.ensures,
-      got32 _ _ c.under-2.type-inv c.under-2.ensures,
-      got32 _ _ c.under-3.type-inv c.under-3.ensures,
-      got32 _ _ c.under-4.type-inv c.under-4.ensures,
+      got32 _ _ c.under.type_inv c.under.ensures,
+      got32 _ _ c.under-2.type_inv c.under-2.ensures,
+      got32 _ _ c.under-3.type_inv c.under-3.ensures,
+      got32 _ _ c.under-4.type_inv c.under-4.ensures,
       back32 fa,
       back32 fd,
       back32 fi,

@@ -11,4 +11,4 @@ returns c =
     let vi = c.value_at-3 in
     let d = c.value_at-2 in
     let a = c.value_at in
-    rw (got32 _ _ a.type-inv a.ensures, got32 _ _ d.type-inv d.ensures, got32 _ _ vi.type-inv vi.ensures, got32 _ _ vm.type-inv vm.ensures)
+    rw (got32 _ _ a.type_inv a.ensures, got32 _ _ d.type_inv d.ensures, got32 _ _ vi.type_inv vi.ensures, got32 _ _ vm.type_inv vm.ensures)

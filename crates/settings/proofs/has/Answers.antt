@@ -10,4 +10,4 @@ pub returns : goal.returns
 returns c =
     let one = c.under in
     let two = c.under-2 in
-    same_bits _ _ (fit32 _ one.type-inv) (fit32 _ two.type-inv) ∙ ap₂ eq_z one.ensures two.ensures ∙ has_tested _ _
+    same_bits _ _ (fit32 _ one.type_inv) (fit32 _ two.type_inv) ∙ ap₂ eq_z one.ensures two.ensures ∙ has_tested _ _

@@ -11,10 +11,10 @@ pub returns : goal.returns
 unfolding chosen_pairs
 returns c =
     let g = c.args.g in
-    let fa : SFits w32 g.a = fit32 _ c.well-formed.0.1.1.0.1 in
-    let fd : SFits w32 g.d = fit32 _ c.well-formed.0.1.1.1.0.1 in
-    let fi : SFits w32 g.vi = fit32 _ c.well-formed.0.1.1.1.1.0.1 in
-    let fm : SFits w32 g.vm = fit32 _ c.well-formed.0.1.1.1.1.1.0.1 in
+    let fa : SFits w32 g.a = fit32 _ c.well_formed.0.1.1.0.1 in
+    let fd : SFits w32 g.d = fit32 _ c.well_formed.0.1.1.1.0.1 in
+    let fi : SFits w32 g.vi = fit32 _ c.well_formed.0.1.1.1.1.0.1 in
+    let fm : SFits w32 g.vm = fit32 _ c.well_formed.0.1.1.1.1.1.0.1 in
     rw (
       c.is_outside-a.ensures,
       c.is_outside-d.ensures,

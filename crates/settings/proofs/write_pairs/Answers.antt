@@ -17,10 +17,10 @@ returns c =
     let d = c.write_pair-vi.ensures in
     let vi = c.write_pair-vm.ensures in
     let vm = c.write_pair.ensures in
-    let fa : SFits w32 g.a = fit32 _ c.well-formed.1.0.1.1.0.1 in
-    let fd : SFits w32 g.d = fit32 _ c.well-formed.1.0.1.1.1.0.1 in
-    let fi : SFits w32 g.vi = fit32 _ c.well-formed.1.0.1.1.1.1.0.1 in
-    let fm : SFits w32 g.vm = fit32 _ c.well-formed.1.0.1.1.1.1.1.0.1 in (
+    let fa : SFits w32 g.a = fit32 _ c.well_formed.1.0.1.1.0.1 in
+    let fd : SFits w32 g.d = fit32 _ c.well_formed.1.0.1.1.1.0.1 in
+    let fi : SFits w32 g.vi = fit32 _ c.well_formed.1.0.1.1.1.1.0.1 in
+    let fm : SFits w32 g.vm = fit32 _ c.well_formed.1.0.1.1.1.1.1.0.1 in (
       omega (arith, all_long g which, a.0, d.0, vi.0, vm.0),
       omega (arith, a.1, d.1, vi.1, vm.1),
       all_stored g which _ _ _ _ _ _ _ _ (a.0 ∙ omega arith) d.0 vi.0

@@ -12,7 +12,7 @@ returns-in-Fails c = rw (c.in-Fails.is, held c.reads_er.ensures c.if-reads_er.tr
 
 pub returns-in_default : goal.returns-in_default
 unfolding clears
-returns-in_default c = rw (no_error _ c.in-Fails.keys2, held c.reads_er.ensures c.if-reads_er.true)
+returns-in_default c = rw (no_error _ c.in_default.not-Fails, held c.reads_er.ensures c.if-reads_er.true)
 
 pub returns : goal.returns
 unfolding clears

@@ -8,4 +8,4 @@ pub returns : goal.returns
 returns c =
     let x = c.read in
     let r = c.difference in
-    simp (got64 _ _ r.type-inv (simp (got32 _ _ x.type-inv x.ensures) at r.ensures)) at c.storing_result.ensures
+    simp (got64 _ _ r.type_inv (simp (got32 _ _ x.type_inv x.ensures) at r.ensures)) at c.storing_result.ensures

@@ -23,4 +23,4 @@ pub returns-in-Variable : goal.returns-in-Variable
 unfolding holding_by
 returns-in-Variable c =
     let x = c.read in
-    rw c.in-Variable.is (simp (got32 _ _ x.type-inv x.ensures) at c.holding-in-Variable.ensures)
+    rw c.in-Variable.is (simp (got32 _ _ x.type_inv x.ensures) at c.holding-in-Variable.ensures)

@@ -11,10 +11,6 @@ use Rattle.program.proofs.Results.{tested, held, failed}
 use Rattle.acting.proofs.Kit.{turns_fit, turns_some}
 use Rattle.acting.proofs.doing.holding.Goals as goal
 
--- the test, in the words of specs/
-in_range : (c : goal.After-holds) → c.holds.result ≡ in_range hold_range c.args.x
-in_range c = tested c.holds.ensures c.hold_range.ensures (back64 c.ranges.x)
-
 pub returns-then-hold-gt0 : goal.returns-then-hold-gt0
 unfolding holding
 returns-then-hold-gt0 c = search tests
@@ -23,15 +19,23 @@ pub overflow_cast-x : goal.overflow_cast-x
 overflow_cast-x c = wide c.ranges.x
 
 pub overflow_cast-result : goal.overflow_cast-result
-overflow_cast-result c = turns_fit c.ranges.x (held (in_range c) c.if-holds.true)
+overflow_cast-result c =
+    let is_in_range : c.holds.result ≡ in_range hold_range c.args.x = tested c.holds.ensures c.hold_range.ensures (back64 c.ranges.x) in
+    turns_fit c.ranges.x (held is_in_range c.if-holds.true)
 
 pub overflow_sub-result-then-holds : goal.overflow_sub-result-then-holds
-overflow_sub-result-then-holds c = turns_some c.ranges.x (held (in_range c) c.if-holds.true)
+overflow_sub-result-then-holds c =
+    let is_in_range : c.holds.result ≡ in_range hold_range c.args.x = tested c.holds.ensures c.hold_range.ensures (back64 c.ranges.x) in
+    turns_some c.ranges.x (held is_in_range c.if-holds.true)
 
 pub returns-then-holds : goal.returns-then-holds
 unfolding holding
-returns-then-holds c = simp (le-ltb _ _ c.if-hold-gt0.false, back32 c.ranges.x, held (in_range c) c.if-holds.true)
+returns-then-holds c =
+    let is_in_range : c.holds.result ≡ in_range hold_range c.args.x = tested c.holds.ensures c.hold_range.ensures (back64 c.ranges.x) in
+    simp (le-ltb _ _ c.if-hold-gt0.false, back32 c.ranges.x, held is_in_range c.if-holds.true)
 
 pub returns : goal.returns
 unfolding holding
-returns c = simp (le-ltb _ _ c.if-hold-gt0.false, failed (in_range c) c.if-holds.false)
+returns c =
+    let is_in_range : c.holds.result ≡ in_range hold_range c.args.x = tested c.holds.ensures c.hold_range.ensures (back64 c.ranges.x) in
+    simp (le-ltb _ _ c.if-hold-gt0.false, failed is_in_range c.if-holds.false)

@@ -8,4 +8,4 @@ returns c =
     let x = c.value-x in
     let p = c.read in
     let s = c.sum in
-    simp (got64 _ _ s.type-inv (simp (got32 _ _ x.type-inv x.ensures, got32 _ _ p.type-inv p.ensures) at s.ensures), got32 _ _ x.type-inv x.ensures) at c.moving.ensures
+    simp (got64 _ _ s.type_inv (simp (got32 _ _ x.type_inv x.ensures, got32 _ _ p.type_inv p.ensures) at s.ensures), got32 _ _ x.type_inv x.ensures) at c.moving.ensures

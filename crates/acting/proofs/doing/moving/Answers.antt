@@ -10,33 +10,33 @@ use Rattle.program.proofs.Results.{tested, held, failed}
 use Rattle.acting.proofs.Kit.{is_one, not_one, narrow, narrowed}
 use Rattle.acting.proofs.doing.moving.Goals as goal
 
--- the test, in the words of specs/
-in_range : (c : goal.After-holds) → c.holds.result ≡ in_range literals c.args.target
-in_range c = tested c.holds.ensures c.literals.ensures (to_z-of_z {w = w64} c.ranges.target)
-
 pub returns-then-read-eq1 : goal.returns-then-read-eq1
 unfolding moving
-returns-then-read-eq1 c = let x = c.read in simp (is_one _ _ x.type-inv x.ensures c.if-read-eq1.true)
+returns-then-read-eq1 c = let x = c.read in simp (is_one _ _ x.type_inv x.ensures c.if-read-eq1.true)
 
 pub overflow_cast-result : goal.overflow_cast-result
-overflow_cast-result c = narrow c.ranges.target (held (in_range c) c.if-holds.true)
+overflow_cast-result c =
+    let is_in_range : c.holds.result ≡ in_range literals c.args.target = tested c.holds.ensures c.literals.ensures (to_z-of_z {w = w64} c.ranges.target) in
+    narrow c.ranges.target (held is_in_range c.if-holds.true)
 
 pub returns-then-holds : goal.returns-then-holds
 unfolding moving
 returns-then-holds c =
+    let is_in_range : c.holds.result ≡ in_range literals c.args.target = tested c.holds.ensures c.literals.ensures (to_z-of_z {w = w64} c.ranges.target) in
     let f = c.ranges in
     let x = c.read in
-    let t = held (in_range c) c.if-holds.true in
-    simp (not_one _ _ x.type-inv x.ensures c.if-read-eq1.false, t, narrowed f.target t, back32 f.value)
+    let t = held is_in_range c.if-holds.true in
+    simp (not_one _ _ x.type_inv x.ensures c.if-read-eq1.false, t, narrowed f.target t, back32 f.value)
 
 pub returns : goal.returns
 unfolding moving
 returns c =
+    let is_in_range : c.holds.result ≡ in_range literals c.args.target = tested c.holds.ensures c.literals.ensures (to_z-of_z {w = w64} c.ranges.target) in
     let f = c.ranges in
     let x = c.read in
     simp (
-      not_one _ _ x.type-inv x.ensures c.if-read-eq1.false,
-      failed (in_range c) c.if-holds.false,
+      not_one _ _ x.type_inv x.ensures c.if-read-eq1.false,
+      failed is_in_range c.if-holds.false,
       c.result_error.ensures,
       to_z-of_z {w = w64} f.target,
     )

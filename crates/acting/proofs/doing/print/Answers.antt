@@ -16,4 +16,4 @@ returns-in-Literal c = rw c.in-Literal.is (search rules)
 
 pub returns-in-Variable : goal.returns-in-Variable
 unfolding printing_by
-returns-in-Variable c = rw c.in-Variable.is (simp (got32 _ _ c.read.type-inv c.read.ensures))
+returns-in-Variable c = rw c.in-Variable.is (simp (got32 _ _ c.read.type_inv c.read.ensures))

@@ -5,4 +5,4 @@ use Rattle.program.proofs.Results.{got32}
 use Rattle.acting.proofs.doing.set.Goals as goal
 
 pub returns : goal.returns
-returns c = let x = c.value in simp (got32 _ _ x.type-inv x.ensures) at c.storing.ensures
+returns c = let x = c.value in simp (got32 _ _ x.type_inv x.ensures) at c.storing.ensures

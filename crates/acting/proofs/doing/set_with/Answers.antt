@@ -8,4 +8,4 @@ pub returns : goal.returns
 returns c =
     let x = c.value in
     let y = c.value-2 in
-    simp (got32 _ _ x.type-inv x.ensures, got32 _ _ y.type-inv y.ensures) at c.storing_with.ensures
+    simp (got32 _ _ x.type_inv x.ensures, got32 _ _ y.type_inv y.ensures) at c.storing_with.ensures

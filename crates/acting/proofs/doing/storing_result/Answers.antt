@@ -9,21 +9,21 @@ use Rattle.program.proofs.Results.{tested, held, failed}
 use Rattle.acting.proofs.Kit.{narrow, narrowed}
 use Rattle.acting.proofs.doing.storing_result.Goals as goal
 
--- the test, in the words of specs/
-in_range : (c : goal.After-holds) → c.holds.result ≡ in_range literals c.args.res
-in_range c = tested c.holds.ensures c.literals.ensures (to_z-of_z {w = w64} c.ranges.res)
-
 pub overflow_cast-res : goal.overflow_cast-res
-overflow_cast-res c = narrow c.ranges.res (held (in_range c) c.if-holds.true)
+overflow_cast-res c =
+    let is_in_range : c.holds.result ≡ in_range literals c.args.res = tested c.holds.ensures c.literals.ensures (to_z-of_z {w = w64} c.ranges.res) in
+    narrow c.ranges.res (held is_in_range c.if-holds.true)
 
 pub returns-then-holds : goal.returns-then-holds
 unfolding storing_result
 returns-then-holds c =
-    let t = held (in_range c) c.if-holds.true in
+    let is_in_range : c.holds.result ≡ in_range literals c.args.res = tested c.holds.ensures c.literals.ensures (to_z-of_z {w = w64} c.ranges.res) in
+    let t = held is_in_range c.if-holds.true in
     simp t (simp (narrowed c.ranges.res t) at c.storing.ensures)
 
 pub returns : goal.returns
 unfolding storing_result
 returns c =
+    let is_in_range : c.holds.result ≡ in_range literals c.args.res = tested c.holds.ensures c.literals.ensures (to_z-of_z {w = w64} c.ranges.res) in
     let f = c.ranges in
-    simp (failed (in_range c) c.if-holds.false, c.result_error.ensures, to_z-of_z {w = w64} f.result)
+    simp (failed is_in_range c.if-holds.false, c.result_error.ensures, to_z-of_z {w = w64} f.res)

@@ -16,4 +16,4 @@ returns c =
     let f = c.ranges in
     let r = c.operate in
     rw (divisor_test, ← zero_test _ f.y, c.if-operator-y.false)
-    (simp (got64 _ _ r.type-inv (simp (back32 f.x, back32 f.y) at r.ensures)) at c.storing_result.ensures)
+    (simp (got64 _ _ r.type_inv (simp (back32 f.x, back32 f.y) at r.ensures)) at c.storing_result.ensures)

@@ -15,4 +15,4 @@ unfolding holds condition_of
 returns c =
     let x = c.value in
     let y = c.value-2 in
-    simp (ne_eqb _ _ c.if-cell-eq-ALWAYS.false, c.compares.ensures, got32 _ _ x.type-inv x.ensures, got32 _ _ y.type-inv y.ensures)
+    simp (ne_eqb _ _ c.if-cell-eq-ALWAYS.false, c.compares.ensures, got32 _ _ x.type_inv x.ensures, got32 _ _ y.type_inv y.ensures)

@@ -18,4 +18,4 @@ returns-in-Literal c = rw c.in-Literal.is (search rules)
 
 pub returns-in-Variable : goal.returns-in-Variable
 unfolding value value_of
-returns-in-Variable c = rw c.in-Variable.is (back32 (fit32 _ c.read.type-inv) ∙ c.read.ensures)
+returns-in-Variable c = rw c.in-Variable.is (back32 (fit32 _ c.read.type_inv) ∙ c.read.ensures)

@@ -18,7 +18,7 @@ pub returns-then-r-eq0 : goal.returns-then-r-eq0
 returns-then-r-eq0 c = rw (record_none _ _ (eq-eqb _ _ c.if-r-eq0.true)) (omega arith, refl)
 
 pub overflow_add-result : goal.overflow_add-result
-overflow_add-result c = let h = c.requires in let g = c.well-formed in record { fits = omega arith }
+overflow_add-result c = let h = c.requires in let g = c.well_formed in record { fits = omega arith }
 
 pub returns : goal.returns
 returns c =

@@ -15,4 +15,4 @@ overflow_cast-result-2 c = record { fits = rw c.read-2.ensures (field_below 1 _ 
 pub returns : goal.returns
 unfolding event_at
 returns c =
-    simp (c.read4.ensures, c.read.ensures, c.read-2.ensures, c.read2.ensures, got32 _ _ c.signed.type-inv c.signed.ensures, c.read4-2.ensures)
+    simp (c.read4.ensures, c.read.ensures, c.read-2.ensures, c.read2.ensures, got32 _ _ c.signed.type_inv c.signed.ensures, c.read4-2.ensures)

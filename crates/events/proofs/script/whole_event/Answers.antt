@@ -25,4 +25,4 @@ four-requires-2 c = omega (arith, event_inside c.args.s.now c.args.k c.requires.
 pub returns : goal.returns
 unfolding event_at
 returns c =
-    simp (c.four.ensures, ← field_one, c.two.ensures, got32 _ _ c.signed.type-inv c.signed.ensures, c.four-2.ensures)
+    simp (c.four.ensures, ← field_one, c.two.ensures, got32 _ _ c.signed.type_inv c.signed.ensures, c.four-2.ensures)

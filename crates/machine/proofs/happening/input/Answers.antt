@@ -19,4 +19,4 @@ returns c =
     let b = back32 c.ranges.value in
     let h = c.requires.1.0 in
     let e : 16 + c.args.number - 1 ≡ 15 + c.args.number = omega arith in
-    simp (e, b, got32 _ _ c.all_inputs-sum.type-inv (simp (e, b) at c.all_inputs-sum.ensures))
+    simp (e, b, got32 _ _ c.all_inputs-sum.type_inv (simp (e, b) at c.all_inputs-sum.ensures))

@@ -16,7 +16,7 @@ use Rattle.machine.proofs.Starting.{acts_more}
 use Rattle.machine.proofs.happening.reach.Goals as goal
 
 -- The event that acts is a good one.
-good : (c : goal.After-whole_event invariant-loop decreases-loop) → good_event c.whole_event.result ≡ true
+good : (c : goal.After-whole_event) → good_event c.whole_event.result ≡ true
 good c =
     rw c.whole_event.ensures (good_events c.args.events.now c.loop-k.k c.requires.1 (omega (arith, c.requires.2.1, c.loop-k-test.true)))
 

@@ -5,4 +5,4 @@ use Rattle.program.proofs.Results.{got32}
 use Rattle.machine.proofs.turn.set_moving.Goals as goal
 
 pub returns : goal.returns
-returns c = simp (got32 _ _ c.bit.type-inv c.bit.ensures)
+returns c = simp (got32 _ _ c.bit.type_inv c.bit.ensures)

@@ -16,13 +16,13 @@ pub shape_of-page-then-k-ge-WORDS : goal.shape_of-page-then-k-ge-WORDS
 shape_of-page-then-k-ge-WORDS c = c.loop-i.invariant.left.size
 
 pub returns-then-k-ge-WORDS : goal.returns-then-k-ge-WORDS
-returns-then-k-ge-WORDS c = words_put c.loop-i.invariant (omega arith) (omega (arith, c.well-formed.1.1.0.1.0.1))
+returns-then-k-ge-WORDS c = words_put c.loop-i.invariant (omega arith) (omega (arith, c.well_formed.1.1.0.1.0.1))
 
 pub loop-i-smaller : goal.loop-i-smaller
-loop-i-smaller c = left_less c.args.t3 c.loop-i.k c.loop-i.rest (omega (arith, c.well-formed.1.1.0.1.0.1))
+loop-i-smaller c = left_less c.args.t3 c.loop-i.k c.loop-i.rest (omega (arith, c.well_formed.1.1.0.1.0.1))
 
 pub loop-i-preserved : goal.loop-i-preserved
-loop-i-preserved c = word_next c.loop-i.invariant (omega arith) (omega (arith, c.well-formed.1.1.0.1.0.1))
+loop-i-preserved c = word_next c.loop-i.invariant (omega arith) (omega (arith, c.well_formed.1.1.0.1.0.1))
 
 pub shape_of-page : goal.shape_of-page
 shape_of-page c = c.loop-i.invariant.left.size

@@ -1,6 +1,5 @@
 -- `Variable::range` meets its contract: the tests are those of `range-tested`.
 -- Assumes nothing.
-use borrow.Author.Rules.{rules}
 use mir.Syntax.{w64}
 use mir.Facts.{to_z-of_z}
 use Rattle.numbers.proofs.Kit.{tests, wide, back64, more64, less64}

@@ -2,7 +2,6 @@
 -- Assumes nothing.
 use Rattle.program.specs.Names.{word_character}
 use Rattle.program.proofs.Keys.{two_bytes}
-use borrow.Author.Rules.{rules}
 use Rattle.program.proofs.names.has_two_characters.Goals as goal
 
 pub returns : goal.returns

@@ -1,6 +1,5 @@
 -- `is_user_name` meets its contract.
 -- Assumes nothing.
-use borrow.Author.Rules.{rules}
 use Rattle.program.specs.Names.{user_name}
 use Rattle.program.proofs.names.is_user_name.Goals as goal
 

@@ -1,13 +1,8 @@
 -- `place_in` meets its contract. The loop's invariant: the place among the names that are left gives the place in the whole table.
 -- Assumes nothing.
-use mathlib.Core.Path.{◌≡◌, sym, ◌∙◌}
-use Prim.Native.Nat.{◌≤◌, ◌/◌, ◌-◌}
+use mathlib.Core.Path.{sym, ◌∙◌}
 use native.Mathlib.Omega.{arith}
-use borrow.Author.Rules.{rules}
-use lib.ListN.{length}
-use Rattle.numbers.specs.Tests.{numbered}
-use Rattle.program.specs.Code.{name_of, names_of}
-use Rattle.program.proofs.Places.{left, all_left, found, passed, none_left}
+use Rattle.program.proofs.Places.{all_left, found, passed, none_left}
 use Rattle.program.proofs.names.place_in.Goals as goal
 
 pub loop-i-init : goal.loop-i-init

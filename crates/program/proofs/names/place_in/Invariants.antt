@@ -1,13 +1,11 @@
 -- `place_in` meets its contract. The loop's invariant: the place among the names that are left gives the place in the whole table.
 -- Assumes nothing.
-use mathlib.Core.Path.{◌≡◌, sym, ◌∙◌}
+use mathlib.Core.Path.{◌≡◌}
 use Prim.Native.Nat.{◌≤◌, ◌/◌, ◌-◌}
-use native.Mathlib.Omega.{arith}
-use borrow.Author.Rules.{rules}
 use lib.ListN.{length}
 use Rattle.numbers.specs.Tests.{numbered}
 use Rattle.program.specs.Code.{name_of, names_of}
-use Rattle.program.proofs.Places.{left, all_left, found, passed, none_left}
+use Rattle.program.proofs.Places.{left}
 use Rattle.program.proofs.names.place_in.Given as goal
 
 abbrev pub invariant-loop-i : goal.invariant-loop-i

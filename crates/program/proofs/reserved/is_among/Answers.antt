@@ -1,11 +1,10 @@
 -- `is_among` meets its contract. The loop's invariant: names before `low` are lower than the one sought, those from `high` on are higher.
 -- Assumes nothing.
 use mathlib.Core.Path.{◌≡◌}
-use Prim.Native.Nat.{ℕ, ◌-◌, ◌≤◌, ◌<◌}
+use Prim.Native.Nat.{ℕ, ◌≤◌, ◌<◌}
 use native.Mathlib.Omega.{arith}
 use Rattle.numbers.proofs.Truth.{if_below}
-use Rattle.program.specs.Code.{rank}
-use Rattle.program.proofs.Halving.{Seeks, seeks_all, seeks_right, seeks_left, sought_here, sought_nowhere}
+use Rattle.program.proofs.Halving.{seeks_all, seeks_right, seeks_left, sought_here, sought_nowhere}
 use Rattle.program.proofs.reserved.is_among.Goals as goal
 
 -- One that is neither the same nor lower is higher.
@@ -24,7 +23,7 @@ overflow_mul-middle c = let h = c.loop-low.invariant.1 in omega (arith, h.inside
 pub returns-then-here-sought : goal.returns-then-here-sought
 returns-then-here-sought c =
     let l = c.loop-low.invariant in
-    sought_here l.1 (omega arith) (omega arith) c.read2.ensures c.rank-here.ensures l.0 c.read2.type-inv (omega arith) c.if-here-sought.true
+    sought_here l.1 (omega arith) (omega arith) c.read2.ensures c.rank-here.ensures l.0 c.read2.type_inv (omega arith) c.if-here-sought.true
 
 pub overflow_add-low : goal.overflow_add-low
 overflow_add-low c = let h = c.loop-low.invariant.1 in omega (arith, h.inside)

@@ -1,11 +1,9 @@
 -- `is_among` meets its contract. The loop's invariant: names before `low` are lower than the one sought, those from `high` on are higher.
 -- Assumes nothing.
 use mathlib.Core.Path.{◌≡◌}
-use Prim.Native.Nat.{ℕ, ◌-◌, ◌≤◌, ◌<◌}
-use native.Mathlib.Omega.{arith}
-use Rattle.numbers.proofs.Truth.{if_below}
+use Prim.Native.Nat.{◌-◌}
 use Rattle.program.specs.Code.{rank}
-use Rattle.program.proofs.Halving.{Seeks, seeks_all, seeks_right, seeks_left, sought_here, sought_nowhere}
+use Rattle.program.proofs.Halving.{Seeks}
 use Rattle.program.proofs.reserved.is_among.Given as goal
 
 abbrev pub invariant-loop-low : goal.invariant-loop-low

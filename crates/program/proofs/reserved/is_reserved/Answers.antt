@@ -1,6 +1,5 @@
 -- `is_reserved` meets its contract: the table holds the words of the drives, and they rise.
 -- Assumes nothing.
-use borrow.Author.Rules.{rules}
 use Rattle.numbers.specs.Bytes.{ascii, field, number}
 use Rattle.numbers.specs.Tests.{all_below}
 use Rattle.program.specs.DriveWords.{drive_words}

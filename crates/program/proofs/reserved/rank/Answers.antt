@@ -1,7 +1,6 @@
 -- `rank` meets its contract.
 -- Assumes nothing.
 use mathlib.Core.Path.{refl}
-use borrow.Author.Rules.{rules}
 use Rattle.program.specs.Code.{rank}
 use Rattle.program.proofs.reserved.rank.Goals as goal
 

@@ -9,7 +9,7 @@ use Rattle.reading.proofs.cells.operand.Goals as goal
 
 pub returns-in-Literal : goal.returns-in-Literal
 unfolding operand_of value_of
-returns-in-Literal c = rw (c.in-Literal.is, back32 (fit32 _ c.signed.type-inv), c.signed.ensures)
+returns-in-Literal c = rw (c.in-Literal.is, back32 (fit32 _ c.signed.type_inv), c.signed.ensures)
 
 pub returns-in-Variable : goal.returns-in-Variable
 unfolding operand_of value_of

@@ -6,4 +6,4 @@ use Rattle.settings.proofs.layout.has_trailer.Goals as goal
 
 pub returns : goal.returns
 returns c =
-    trailer_tested _ _ _ _ _ (λ k. (c.shared_slice_known-1.given k).fits) c.requires.0 c.trailer.type-inv c.read.ensures c.trailer.ensures
+    trailer_tested _ _ _ _ _ (λ k. (c.shared_slice_known-1.given k).fits) c.requires.0 c.trailer.type_inv c.read.ensures c.trailer.ensures

@@ -9,4 +9,4 @@ pub returns : goal.returns
 unfolding pair_at
 returns c =
     let value = c.value_at in
-    rw (got32 _ _ value.type-inv value.ensures, c.read2.ensures, c.read2-2.ensures)
+    rw (got32 _ _ value.type_inv value.ensures, c.read2.ensures, c.read2-2.ensures)

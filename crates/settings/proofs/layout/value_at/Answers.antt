@@ -8,4 +8,4 @@ use Rattle.settings.proofs.layout.value_at.Goals as goal
 
 pub returns : goal.returns
 unfolding value_at
-returns c = got32 _ _ c.signed.type-inv (c.signed.ensures ∙ ap signed32 c.read4.ensures)
+returns c = got32 _ _ c.signed.type_inv (c.signed.ensures ∙ ap signed32 c.read4.ensures)
