@@ -13,14 +13,10 @@ use lib.Seq.{set_out, set-get_or}
 use Rattle.program.specs.declared.Cell.{Cell}
 use Rattle.program.specs.Cells.{same, statement_of}
 use Rattle.program.specs.Statements.{Statement}
-use types.Run.{OneOf, miss}
-use denote.Enum.Declared.{tag_of}
 use Rattle.effects.specs.declared.Effect.{Effect}
 use Rattle.effects.specs.declared.Effect.TheVariants.{Fails, Stores, Passes, Goes, Calls, Returns, Ends, Stays, Holds, Arms, Disarms, Moves, Slews, Prints}
-use Rattle.effects.specs.contracts.Effect.{the_type}
 use Rattle.effects.specs.Effects.{effect}
 use Rattle.acting.specs.Code.{clears_by}
-use Rattle.acting.proofs.Reading.{faultless}
 use Rattle.effects.proofs.Sound.{Sound, sound}
 use Rattle.machine.specs.declared.Machine.{Machine}
 use Rattle.machine.specs.declared.Control.{Control}
@@ -45,14 +41,17 @@ cleared_already false vars e = refl
 pub output : (v : ℕ) → (leb 11 v && leb v 13) ≡ true → 11 ≤ v
 output v h = leb-true 11 v ((and-eq-true_iff (leb 11 v) (leb v 13)).0 h).0
 
--- Effects by their tags: those that leave the variables as they are, those that only go on to the following cell, those that record nothing.
-abbrev others : List ℕ
-others = 2 ∷ 3 ∷ 4 ∷ 5 ∷ 6 ∷ 7 ∷ 8 ∷ 9 ∷ 10 ∷ 13 ∷ []
+-- Effects by what they are not: those that leave the variables as they are, those that only go on to the following cell, those that record nothing.
+pub record LeavesVariables (does : Effect) : Type 0 where
+  pub fails : (error : ℕ) → does ≡ Fails error → ⊥
+  pub stores : (v : ℕ) (z : ℤ) → does ≡ Stores v z → ⊥
+  pub moves : (target : ℤ) (kind : ℕ) (z : ℤ) → does ≡ Moves target kind z → ⊥
+  pub slews : (z : ℤ) → does ≡ Slews z → ⊥
 
-pub unchanged : (does : Effect) (vars : List ℤ) → OneOf others (tag_of the_type does) → vars ≡ changed does vars
+pub unchanged : (does : Effect) (vars : List ℤ) → LeavesVariables does → vars ≡ changed does vars
 unfolding changed
-unchanged (Fails error) vars h = absurd (miss others 0 tt h)
-unchanged (Stores v z) vars h = absurd (miss others 1 tt h)
+unchanged (Fails error) vars h = absurd (h.fails error refl)
+unchanged (Stores v z) vars h = absurd (h.stores v z refl)
 unchanged Passes vars h = refl
 unchanged (Goes cell) vars h = refl
 unchanged (Calls cell) vars h = refl
@@ -62,38 +61,52 @@ unchanged Stays vars h = refl
 unchanged (Holds turns) vars h = refl
 unchanged (Arms cell) vars h = refl
 unchanged Disarms vars h = refl
-unchanged (Moves target kind z) vars h = absurd (miss others 11 tt h)
-unchanged (Slews z) vars h = absurd (miss others 12 tt h)
+unchanged (Moves target kind z) vars h = absurd (h.moves target kind z refl)
+unchanged (Slews z) vars h = absurd (h.slews z refl)
 unchanged (Prints v z) vars h = refl
 
-abbrev going : List ℕ
-going = 1 ∷ 2 ∷ 13 ∷ []
+pub record OnlyGoesOn (does : Effect) : Type 0 where
+  pub fails : (error : ℕ) → does ≡ Fails error → ⊥
+  pub goes : (cell : ℕ) → does ≡ Goes cell → ⊥
+  pub calls : (cell : ℕ) → does ≡ Calls cell → ⊥
+  pub returns : does ≡ Returns → ⊥
+  pub ends : does ≡ Ends → ⊥
+  pub stays : does ≡ Stays → ⊥
+  pub holds : (turns : ℕ) → does ≡ Holds turns → ⊥
+  pub arms : (cell : ℕ) → does ≡ Arms cell → ⊥
+  pub disarms : does ≡ Disarms → ⊥
+  pub moves : (target : ℤ) (kind : ℕ) (z : ℤ) → does ≡ Moves target kind z → ⊥
+  pub slews : (z : ℤ) → does ≡ Slews z → ⊥
 
-pub goes_onward : (does : Effect) (cells : ℕ) (vars : List ℤ) (c r : Control) → OneOf going (tag_of the_type does) → joined (changed does vars) r ≡ onward (joined (changed does vars) c)
+pub goes_onward : (does : Effect) (cells : ℕ) (vars : List ℤ) (c r : Control) → OnlyGoesOn does → joined (changed does vars) r ≡ onward (joined (changed does vars) c)
     → joined (changed does vars) r ≡ (applied cells does (joined vars c)).machine
 unfolding changed applied
-goes_onward (Fails error) cells vars c r h e = absurd (miss going 0 tt h)
+goes_onward (Fails error) cells vars c r h e = absurd (h.fails error refl)
 goes_onward (Stores v z) cells vars c r h e = e
 goes_onward Passes cells vars c r h e = e
-goes_onward (Goes cell) cells vars c r h e = absurd (miss going 3 tt h)
-goes_onward (Calls cell) cells vars c r h e = absurd (miss going 4 tt h)
-goes_onward Returns cells vars c r h e = absurd (miss going 5 tt h)
-goes_onward Ends cells vars c r h e = absurd (miss going 6 tt h)
-goes_onward Stays cells vars c r h e = absurd (miss going 7 tt h)
-goes_onward (Holds turns) cells vars c r h e = absurd (miss going 8 tt h)
-goes_onward (Arms cell) cells vars c r h e = absurd (miss going 9 tt h)
-goes_onward Disarms cells vars c r h e = absurd (miss going 10 tt h)
-goes_onward (Moves target kind z) cells vars c r h e = absurd (miss going 11 tt h)
-goes_onward (Slews z) cells vars c r h e = absurd (miss going 12 tt h)
+goes_onward (Goes cell) cells vars c r h e = absurd (h.goes cell refl)
+goes_onward (Calls cell) cells vars c r h e = absurd (h.calls cell refl)
+goes_onward Returns cells vars c r h e = absurd (h.returns refl)
+goes_onward Ends cells vars c r h e = absurd (h.ends refl)
+goes_onward Stays cells vars c r h e = absurd (h.stays refl)
+goes_onward (Holds turns) cells vars c r h e = absurd (h.holds turns refl)
+goes_onward (Arms cell) cells vars c r h e = absurd (h.arms cell refl)
+goes_onward Disarms cells vars c r h e = absurd (h.disarms refl)
+goes_onward (Moves target kind z) cells vars c r h e = absurd (h.moves target kind z refl)
+goes_onward (Slews z) cells vars c r h e = absurd (h.slews z refl)
 goes_onward (Prints v z) cells vars c r h e = e
 
-abbrev silent : List ℕ
-silent = 2 ∷ 3 ∷ 4 ∷ 5 ∷ 6 ∷ 7 ∷ 8 ∷ 9 ∷ 10 ∷ []
+pub record RecordsNothing (does : Effect) : Type 0 where
+  pub fails : (error : ℕ) → does ≡ Fails error → ⊥
+  pub stores : (v : ℕ) (z : ℤ) → does ≡ Stores v z → ⊥
+  pub moves : (target : ℤ) (kind : ℕ) (z : ℤ) → does ≡ Moves target kind z → ⊥
+  pub slews : (z : ℤ) → does ≡ Slews z → ⊥
+  pub prints : (v : ℕ) (z : ℤ) → does ≡ Prints v z → ⊥
 
-pub records_nothing : (does : Effect) (cells : ℕ) (m : Machine) → OneOf silent (tag_of the_type does) → nothing ≡ (applied cells does m).wrote
+pub records_nothing : (does : Effect) (cells : ℕ) (m : Machine) → RecordsNothing does → nothing ≡ (applied cells does m).wrote
 unfolding applied
-records_nothing (Fails error) cells m h = absurd (miss silent 0 tt h)
-records_nothing (Stores v z) cells m h = absurd (miss silent 1 tt h)
+records_nothing (Fails error) cells m h = absurd (h.fails error refl)
+records_nothing (Stores v z) cells m h = absurd (h.stores v z refl)
 records_nothing Passes cells m h = refl
 records_nothing (Goes cell) cells m h = refl
 records_nothing (Calls cell) cells m h = refl
@@ -103,13 +116,13 @@ records_nothing Stays cells m h = refl
 records_nothing (Holds turns) cells m h = refl
 records_nothing (Arms cell) cells m h = refl
 records_nothing Disarms cells m h = refl
-records_nothing (Moves target kind z) cells m h = absurd (miss silent 11 tt h)
-records_nothing (Slews z) cells m h = absurd (miss silent 12 tt h)
-records_nothing (Prints v z) cells m h = absurd (miss silent 13 tt h)
+records_nothing (Moves target kind z) cells m h = absurd (h.moves target kind z refl)
+records_nothing (Slews z) cells m h = absurd (h.slews z refl)
+records_nothing (Prints v z) cells m h = absurd (h.prints v z refl)
 
-pub runs_on : (does : Effect) (cells : ℕ) (m : Machine) → OneOf faultless (tag_of the_type does) → false ≡ (applied cells does m).stops
+pub runs_on : (does : Effect) (cells : ℕ) (m : Machine) → ((error : ℕ) → does ≡ Fails error → ⊥) → false ≡ (applied cells does m).stops
 unfolding applied
-runs_on (Fails error) cells m h = absurd (miss faultless 0 tt h)
+runs_on (Fails error) cells m h = absurd (h error refl)
 runs_on (Stores v z) cells m h = refl
 runs_on Passes cells m h = refl
 runs_on (Goes cell) cells m h = refl
@@ -167,7 +180,8 @@ pub turned_by : (s : List ℕ) (first last cells : ℕ) (cell : Cell) (m : Machi
     → d ≡ turn_by cells cell (acts s first (last - first) m)
 unfolding turn_by turn
 turned_by s first last cells cell m ctl {vars} {does = does} a ed ev ej ec ew es ew' =
-    rw (← a.each m, ← ed, ← ej) (ew' ∙ same_parts (rw ev (ap (λ (x : Machine). with_variables (clearing (clears_by cell ctl.hold does) x.variables) x) (ec vars))) (ew cells (joined vars ctl)) (es cells vars))
+    let eh : ctl.hold ≡ m.hold = ap (λ (x : Machine). x.hold) ej in
+    rw (← a.each m, ← ed, ← ej, ← eh) (ew' ∙ same_parts (rw ev (ap (λ (x : Machine). with_variables (clearing (clears_by cell ctl.hold does) x.variables) x) (ec vars))) (ew cells (joined vars ctl)) (es cells vars))
   where
     same_parts : {m' : Machine} {w : Record} {b : Bool} {t : Turned} → m' ≡ t.machine → w ≡ t.wrote → b ≡ t.stops → record { machine = m'; wrote = w; stops = b } ≡ t
     same_parts p q r = rw (p, q, r)

@@ -13,19 +13,20 @@ use Rattle.text.specs.Forms.{comparison_sign}
 use Rattle.text.proofs.Signs.{comparison_signs, comparison_placed, none_found, sign_found}
 use Rattle.forms.proofs.comparison_number.Goals as goal
 
--- The place that is found is that of the sign.
-at : (c : goal.After-place_in-place) → c.place_in.result ≡ numbered comparison_signs (name_of c.args.key)
-unfolding comparison_signs comparison_sign ascii names_of name_of number
-at c = c.place_in.ensures
-
 pub returns-then-place-eq0 : goal.returns-then-place-eq0
-unfolding comparison_by comparison_number
-returns-then-place-eq0 c = none_found (comparison_placed (name_of _)) (at c) (search rules)
+unfolding comparison_by comparison_number comparison_signs comparison_sign ascii names_of name_of number
+returns-then-place-eq0 c =
+    let at : c.place_in-place.result ≡ numbered comparison_signs (name_of c.args.key) = c.place_in-place.ensures in
+    none_found (comparison_placed (name_of _)) at (search rules)
 
 pub overflow_cast-result : goal.overflow_cast-result
-unfolding comparison_signs
-overflow_cast-result c = record { fits = omega (arith, at c, numbered_most comparison_signs (name_of c.args.key)) }
+unfolding comparison_signs comparison_sign ascii names_of name_of number
+overflow_cast-result c =
+    let at : c.place_in-place.result ≡ numbered comparison_signs (name_of c.args.key) = c.place_in-place.ensures in
+    record { fits = omega (arith, at, numbered_most comparison_signs (name_of c.args.key)) }
 
 pub returns : goal.returns
-unfolding comparison_by
-returns c = sign_found (comparison_placed (name_of _)) (at c) (search rules)
+unfolding comparison_by comparison_signs comparison_sign ascii names_of name_of number
+returns c =
+    let at : c.place_in-place.result ≡ numbered comparison_signs (name_of c.args.key) = c.place_in-place.ensures in
+    sign_found (comparison_placed (name_of _)) at (search rules)

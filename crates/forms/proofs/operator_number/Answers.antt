@@ -13,19 +13,20 @@ use Rattle.text.specs.Forms.{operator_sign}
 use Rattle.text.proofs.Signs.{operator_signs, operator_placed, none_found, sign_found}
 use Rattle.forms.proofs.operator_number.Goals as goal
 
--- The place that is found is that of the sign.
-at : (c : goal.After-place_in-place) → c.place_in.result ≡ numbered operator_signs (name_of c.args.key)
-unfolding operator_signs operator_sign ascii names_of name_of number
-at c = c.place_in.ensures
-
 pub returns-then-place-eq0 : goal.returns-then-place-eq0
-unfolding operator_by operator_number
-returns-then-place-eq0 c = none_found (operator_placed (name_of _)) (at c) (search rules)
+unfolding operator_by operator_number operator_signs operator_sign ascii names_of name_of number
+returns-then-place-eq0 c =
+    let at : c.place_in-place.result ≡ numbered operator_signs (name_of c.args.key) = c.place_in-place.ensures in
+    none_found (operator_placed (name_of _)) at (search rules)
 
 pub overflow_cast-result : goal.overflow_cast-result
-unfolding operator_signs
-overflow_cast-result c = record { fits = omega (arith, at c, numbered_most operator_signs (name_of c.args.key)) }
+unfolding operator_signs operator_sign ascii names_of name_of number
+overflow_cast-result c =
+    let at : c.place_in-place.result ≡ numbered operator_signs (name_of c.args.key) = c.place_in-place.ensures in
+    record { fits = omega (arith, at, numbered_most operator_signs (name_of c.args.key)) }
 
 pub returns : goal.returns
-unfolding operator_by
-returns c = sign_found (operator_placed (name_of _)) (at c) (search rules)
+unfolding operator_by operator_signs operator_sign ascii names_of name_of number
+returns c =
+    let at : c.place_in-place.result ≡ numbered operator_signs (name_of c.args.key) = c.place_in-place.ensures in
+    sign_found (operator_placed (name_of _)) at (search rules)

@@ -15,7 +15,7 @@ pub returns-then-not-is_printable : goal.returns-then-not-is_printable
 returns-then-not-is_printable c =
     let l = c.args.l.now in
     c.faulty-then-not-is_printable.ensures
-    ∙ line_bad l (sym c.is_long.ensures ∙ c.if-is_long.false) (sym c.is_printable.ensures ∙ not-true _ c.if-not-is_printable.true)
+    ∙ line_bad l (sym c.is_long.ensures ∙ c.if-is_long.false) (sym c.is_printable.ensures ∙ c.if-not-is_printable.true)
     ∙ line_reads l
 
 pub slice_bounds-code-end : goal.slice_bounds-code-end
@@ -26,6 +26,6 @@ slice_bounds-code-end c =
 pub returns : goal.returns
 returns c =
     let l = c.args.l.now in
-    line_says l (sym c.is_long.ensures ∙ c.if-is_long.false) (sym c.is_printable.ensures ∙ not-false _ c.if-not-is_printable.false) c.code_length-n.ensures c.read_tokens.ensures
+    line_says l (sym c.is_long.ensures ∙ c.if-is_long.false) (sym c.is_printable.ensures ∙ c.if-not-is_printable.false) c.code_length-n.ensures c.read_tokens.ensures
     c.statement.ensures
     ∙ line_reads l

@@ -8,11 +8,11 @@ use borrow.Author.Tests.{not-true, not-false}
 use Rattle.rows.proofs.Order.{past, first_least, second_below, second_character, row_by_key}
 use Rattle.rows.proofs.row_of.Goals as goal
 
-named : {b t : Bool} → b ≡ t → not b ≡ false → t ≡ true
-named e n = sym e ∙ not-false _ n
+named : {b t : Bool} → b ≡ t → b ≡ true → t ≡ true
+named e n = sym e ∙ n
 
 pub returns-then-not-has_two_characters : goal.returns-then-not-has_two_characters
-returns-then-not-has_two_characters c = sym (past _ (sym c.has_two_characters.ensures ∙ not-true _ c.if-not-has_two_characters.true))
+returns-then-not-has_two_characters c = sym (past _ (sym c.has_two_characters.ensures ∙ c.if-not-has_two_characters.true))
 
 pub overflow_sub-first : goal.overflow_sub-first
 overflow_sub-first c = first_least _ (named c.has_two_characters.ensures c.if-not-has_two_characters.false)

@@ -15,7 +15,7 @@ returns c =
     let fi : SFits w32 g.vi = fit32 _ c.well_formed.0.1.1.1.1.0.1 in
     let fm : SFits w32 g.vm = fit32 _ c.well_formed.0.1.1.1.1.1.0.1 in
     rw (
-      c.is_Within.ensures,
+      c.is_within-a.ensures,
       c.is_within-d.ensures,
       c.is_within-start.ensures,
       c.is_within-top.ensures,

@@ -26,14 +26,14 @@ pub returns-then-not-edition-last : goal.returns-then-not-edition-last
 returns-then-not-edition-last c =
     let last = c.args.last in
     let known = ap (λ (k : ℕ). leb 1 k && leb k last) (sym c.edition-edition.ensures) in
-    gives_refused _ _ _ (number_42 _ _ _ c.if-s.false (known ∙ not-true _ c.if-not-edition-last.true)) (λ z. omega arith) c.refused-then-not-edition-last.ensures
+    gives_refused _ _ _ (number_42 _ _ _ c.if-s.false (known ∙ c.if-not-edition-last.true)) (λ z. omega arith) c.refused-then-not-edition-last.ensures
 
 pub returns-then-not-is_laid_out : goal.returns-then-not-is_laid_out
 returns-then-not-is_laid_out c =
     let last = c.args.last in
     let known = ap (λ (k : ℕ). leb 1 k && leb k last) (sym c.edition-edition.ensures) in
     gives_refused _ _ _
-    (number_43 _ _ _ c.if-s.false (known ∙ not-false _ c.if-not-edition-last.false) (sym c.is_laid_out.ensures ∙ not-true _ c.if-not-is_laid_out.true))
+    (number_43 _ _ _ c.if-s.false (known ∙ c.if-not-edition-last.false) (sym c.is_laid_out.ensures ∙ c.if-not-is_laid_out.true))
     (λ z. omega arith) c.refused-then-not-is_laid_out.ensures
 
 pub returns-then-not-are_within : goal.returns-then-not-are_within
@@ -43,8 +43,8 @@ returns-then-not-are_within c =
     let tested =
     within_tested c.are_within.ensures (back32 (search (rules, c.struct_told-1.given))) (back32 (search (rules, c.struct_told-2-1.given))) c.finished-settings.ensures in
     gives_refused _ _ _
-    (number_44 _ _ _ c.if-s.false (known ∙ not-false _ c.if-not-edition-last.false) (sym c.is_laid_out.ensures ∙ not-false _ c.if-not-is_laid_out.false)
-    (tested ∙ not-true _ c.if-not-are_within.true))
+    (number_44 _ _ _ c.if-s.false (known ∙ c.if-not-edition-last.false) (sym c.is_laid_out.ensures ∙ c.if-not-is_laid_out.false)
+    (tested ∙ c.if-not-are_within.true))
     (λ z. omega arith) c.refused-then-not-are_within.ensures
 
 pub returns : goal.returns
@@ -54,6 +54,6 @@ returns c =
     let tested =
     within_tested c.are_within.ensures (back32 (search (rules, c.struct_told-1.given))) (back32 (search (rules, c.struct_told-2-1.given))) c.finished-settings.ensures in
     gives_accepted _ _ _
-    (number_0 _ _ _ c.if-s.false (known ∙ not-false _ c.if-not-edition-last.false) (sym c.is_laid_out.ensures ∙ not-false _ c.if-not-is_laid_out.false)
-    (tested ∙ not-false _ c.if-not-are_within.false))
+    (number_0 _ _ _ c.if-s.false (known ∙ c.if-not-edition-last.false) (sym c.is_laid_out.ensures ∙ c.if-not-is_laid_out.false)
+    (tested ∙ c.if-not-are_within.false))
     (ap (shown 0) c.finished-settings.ensures)

@@ -16,13 +16,13 @@ use Rattle.settings.proofs.write_pair.Goals as goal
 pub returns-then-not-chosen : goal.returns-then-not-chosen
 returns-then-not-chosen c =
     let a = c.args in
-    let e : a.chosen ≡ false = not-true _ c.if-not-chosen.true in
+    let e : a.chosen ≡ false = c.if-not-chosen.true in
     rw (bytes_not a.v a.value e, e) (omega arith, omega arith, refl)
 
 pub returns : goal.returns
 returns c =
     let a = c.args in
-    let e : a.chosen ≡ true = not-false _ c.if-not-chosen.false in
+    let e : a.chosen ≡ true = c.if-not-chosen.false in
     let digits = c.digits.ensures ∙ ap digits32 (back32 c.ranges.value) in
     let b = c.eight_bytes.ensures ∙ ap (λ (k : ℕ). bytes 4 a.v ++ bytes 4 k) digits in
     rw (bytes_one a.v a.value c.eight_bytes.result e c.requires.1 b, e) (refl, omega arith, c.write.ensures)

@@ -70,4 +70,6 @@ unfolding applied changed
 returns-in-Slews c = let z' : to_z w32 (of_z w32 c.in-Slews.velocity) ≡ c.in-Slews.velocity = search rules in after_by _ _ c.in-Slews.is (λ vars. simp (c.slew.ensures, z') at (c.moved-in-Slews.ensures vars))
 
 pub returns-in_default : goal.returns-in_default
-returns-in_default c = λ vars. goes_onward c.args.does _ vars _ _ c.in-Fails.keys12 (c.onward-in_default.ensures (changed _ vars))
+returns-in_default c =
+    let d = c.in_default in
+    λ vars. goes_onward c.args.does _ vars _ _ (record { fails = d.not-Fails; goes = d.not-Goes; calls = d.not-Calls; returns = d.not-Returns; ends = d.not-Ends; stays = d.not-Stays; holds = d.not-Holds; arms = d.not-Arms; disarms = d.not-Disarms; moves = d.not-Moves; slews = d.not-Slews }) (c.onward-in_default.ensures (changed _ vars))

@@ -11,4 +11,4 @@ unfolding applied no_handler
 returns-in-Fails c = λ cells vars. rw c.in-Fails.is (error_stops _ (joined vars c.args.self))
 
 pub returns-in_default : goal.returns-in_default
-returns-in_default c = λ cells vars. runs_on c.args.does cells (joined vars c.args.self) c.in-Fails.keys2
+returns-in_default c = λ cells vars. runs_on c.args.does cells (joined vars c.args.self) c.in_default.not-Fails

@@ -11,5 +11,5 @@ use Rattle.machine.proofs.Machine.with_start.Goals as goal
 pub returns-then-k-ge-MOST_USERS : goal.returns-then-k-ge-MOST_USERS
 returns-then-k-ge-MOST_USERS c =
     let a = c.args in
-    let l : length a.t1.variables ≡ 64 = search rules in
-    rw (set_out a.t1.variables (32 + a.k) a.value (omega arith))
+    let l : length a.self.variables ≡ 64 = search rules in
+    rw (set_out a.self.variables (32 + a.k) a.value (omega arith))

@@ -31,4 +31,6 @@ unfolding applied
 returns-in-Prints c = λ cells m. let z' : to_z w32 (of_z w32 c.in-Prints.value) ≡ c.in-Prints.value = search rules in rw (c.in-Prints.is, z')
 
 pub returns-in_default : goal.returns-in_default
-returns-in_default c = λ cells m. c.nothing.ensures ∙ records_nothing c.args.does cells m c.in-Fails.keys6
+returns-in_default c =
+    let d = c.in_default in
+    λ cells m. c.nothing.ensures ∙ records_nothing c.args.does cells m (record { fails = d.not-Fails; stores = d.not-Stores; moves = d.not-Moves; slews = d.not-Slews; prints = d.not-Prints })

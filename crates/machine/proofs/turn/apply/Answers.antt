@@ -32,4 +32,6 @@ returns-in-Slews c =
     rw c.in-Slews.is (simp (c.slew.ensures, z') at c.set_moving-in-Slews.ensures)
 
 pub returns-in_default : goal.returns-in_default
-returns-in_default c = unchanged c.args.does _ c.in-Fails.keys5
+returns-in_default c =
+    let d = c.in_default in
+    unchanged c.args.does _ (record { fails = d.not-Fails; stores = d.not-Stores; moves = d.not-Moves; slews = d.not-Slews })

@@ -16,8 +16,8 @@ use Rattle.machine.proofs.turn.change.Goals as goal
 pub returns-then-vars-flag-eq0 : goal.returns-then-vars-flag-eq0
 returns-then-vars-flag-eq0 c =
     let after = c.apply in
-    let same : to_z w32 (of_z w32 (get_or after.new.0 15 (pos 0))) ≡ get_or after.new.0 15 (pos 0) = search rules in
-    cleared_already _ after.new.0 (sym same ∙ ap (to_z w32) c.if-vars-flag-eq0.true) ∙ ap (clearing _) after.ensures
+    let same : to_z w32 (of_z w32 (get_or after.new.vars 15 (pos 0))) ≡ get_or after.new.vars 15 (pos 0) = search rules in
+    cleared_already _ after.new.vars (sym same ∙ ap (to_z w32) c.if-vars-flag-eq0.true) ∙ ap (clearing _) after.ensures
 
 pub returns-then-clears : goal.returns-then-clears
 unfolding clearing

@@ -15,12 +15,12 @@ loop-i-init c = (ap (good_pairs 0) (rest_all _ _ c.pair_count-count.ensures), om
 pub returns-then-not-is_next : goal.returns-then-not-is_next
 returns-then-not-is_next c =
     let l = c.loop-i in
-    sym (sym l.invariant.0 ∙ good_not _ _ l.i l.last c.loop-i-test.true c.pair_at-p.ensures c.is_next.ensures (not-true _ c.if-not-is_next.true))
+    sym (sym l.invariant.0 ∙ good_not _ _ l.i l.last c.loop-i-test.true c.pair_at-p.ensures c.is_next.ensures c.if-not-is_next.true)
 
 pub loop-i-preserved : goal.loop-i-preserved
 loop-i-preserved c =
     let l = c.loop-i in
-    (sym (good_next _ _ l.i l.last c.loop-i-test.true c.pair_at-p.ensures c.is_next.ensures (not-false _ c.if-not-is_next.false)) ∙ l.invariant.0, omega arith, l.invariant.2)
+    (sym (good_next _ _ l.i l.last c.loop-i-test.true c.pair_at-p.ensures c.is_next.ensures c.if-not-is_next.false) ∙ l.invariant.0, omega arith, l.invariant.2)
 
 pub returns : goal.returns
 returns c = let l = c.loop-i in sym (good_end _ _ l.i l.last (omega (arith, c.loop-i-test.false))) ∙ l.invariant.0
