@@ -20,7 +20,8 @@ use Rattle.numbers.proofs.Tests.{eq_list_refl, eq_list_eq}
 use Rattle.program.proofs.Keys.{two_bytes, free_bytes}
 use Rattle.image.specs.Layout.{image_length, cell_count, label_count, variable_count, label_place, variable_place, name_at}
 use Rattle.image.specs.Check.{record_place, record_name, bad_name}
-use Rattle.image.proofs.Any.{same_search, told_true, told_false}
+use Rattle.image.proofs.Any.{same_search}
+use Rattle.program.proofs.Results.{held, failed}
 use Rattle.image.proofs.Records.{Fitting}
 use Rattle.cells.specs.Code.{Marked}
 use Rattle.checking.specs.Code.{record_place_of, key_of, repeated_key, bad_key}
@@ -77,13 +78,13 @@ name_below n t =
 
 -- A record's key, by whether it may be declared, and by the marks of those before.
 module _ (cells labels : ℕ) (s : List ℕ) (k : ℕ) {n : ℕ} {u : Bool} (e : n ≡ key_of cells labels s k) (eu : u ≡ free_name (name_of n)) where
-  pub not_free : not u ≡ true → bad_key cells labels s k ≡ true
+  pub not_free : u ≡ false → bad_key cells labels s k ≡ true
   unfolding bad_key
-  not_free f = rw (← e, told_false eu f)
+  not_free f = rw (← e, failed eu f)
 
-  pub key_inside : not u ≡ false → n < 23296
-  key_inside f = name_below n (rw (told_true eu f) tt)
+  pub key_inside : u ≡ true → n < 23296
+  key_inside f = name_below n (rw (held eu f) tt)
 
-  pub free : {marks : List Bool} {t : Bool} → not u ≡ false → Marked 23296 (key_of cells labels s) k marks → get_or marks n false ≡ t → bad_key cells labels s k ≡ t
+  pub free : {marks : List Bool} {t : Bool} → u ≡ true → Marked 23296 (key_of cells labels s) k marks → get_or marks n false ≡ t → bad_key cells labels s k ≡ t
   unfolding bad_key repeated_key
-  free f m et = rw (← e, told_true eu f) (sym (m.each n (key_inside f)) ∙ et)
+  free f m et = rw (← e, held eu f) (sym (m.each n (key_inside f)) ∙ et)

@@ -1,21 +1,13 @@
 -- Laws of a search: over the numbers below a bound, and over a list.
 -- Assumes nothing.
 use mathlib.Core.Path.{◌≡◌, refl, sym, ap, ◌∙◌}
-use mathlib.Core.Bool.{Bool, true, false, not}
+use mathlib.Core.Bool.{Bool, true, false}
 use mathlib.Core.List.{List, ◌∷◌}
 use Prim.Native.Nat.{ℕ, zero, suc, ◌+◌, ◌≤◌, ◌<◌}
 use native.Mathlib.Numerals.{add-one}
 use native.Mathlib.Omega.{arith}
-use borrow.Author.Tests.{not-true, not-false}
 use Rattle.numbers.specs.Tests.{any_of, any_below}
 use Rattle.numbers.proofs.Tests.{any_below_lem}
-
--- What `if !t` tells of the test t that a call answered.
-pub told_false : {t b : Bool} → t ≡ b → not t ≡ true → b ≡ false
-told_false {t} e f = sym e ∙ not-true t f
-
-pub told_true : {t b : Bool} → t ≡ b → not t ≡ false → b ≡ true
-told_true {t} e f = sym e ∙ not-false t f
 
 -- A search over the numbers k below n: none yet; one more without; one that is; all without. What a turn looked at is r.
 pub none_yet : (p : ℕ → Bool) → any_below 0 p ≡ false

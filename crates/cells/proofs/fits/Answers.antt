@@ -2,7 +2,7 @@
 -- Assumes nothing.
 use borrow.Author.Tests.{eq-eqb, ne_eqb}
 use Rattle.cells.specs.Code.{use_of, fits_of}
-use Rattle.image.proofs.Any.{told_true, told_false}
+use Rattle.program.proofs.Results.{held, failed}
 use Rattle.cells.proofs.fits.Goals as goal
 
 pub returns-then-f-u : goal.returns-then-f-u
@@ -11,21 +11,21 @@ returns-then-f-u c = rw (ne_eqb _ _ c.if-f-u.true)
 
 pub returns-then-not-good_written : goal.returns-then-not-good_written
 unfolding fits_of use_of
-returns-then-not-good_written c = rw (eq-eqb _ _ c.if-f-u.false, told_false c.good_written.ensures c.if-not-good_written.true)
+returns-then-not-good_written c = rw (eq-eqb _ _ c.if-f-u.false, failed c.good_written.ensures c.if-not-good_written.true)
 
 pub returns-then-not-good_selector : goal.returns-then-not-good_selector
 unfolding fits_of use_of
 returns-then-not-good_selector c =
-    rw (eq-eqb _ _ c.if-f-u.false, told_true c.good_written.ensures c.if-not-good_written.false, told_false c.good_selector.ensures c.if-not-good_selector.true)
+    rw (eq-eqb _ _ c.if-f-u.false, held c.good_written.ensures c.if-not-good_written.false, failed c.good_selector.ensures c.if-not-good_selector.true)
 
 pub returns-then-not-good_operand : goal.returns-then-not-good_operand
 unfolding fits_of use_of
 returns-then-not-good_operand c =
     rw (
       eq-eqb _ _ c.if-f-u.false,
-      told_true c.good_written.ensures c.if-not-good_written.false,
-      told_true c.good_selector.ensures c.if-not-good_selector.false,
-      told_false c.good_operand.ensures c.if-not-good_operand.true,
+      held c.good_written.ensures c.if-not-good_written.false,
+      held c.good_selector.ensures c.if-not-good_selector.false,
+      failed c.good_operand.ensures c.if-not-good_operand.true,
     )
 
 pub returns-then-not-good_operand-2 : goal.returns-then-not-good_operand-2
@@ -33,10 +33,10 @@ unfolding fits_of use_of
 returns-then-not-good_operand-2 c =
     rw (
       eq-eqb _ _ c.if-f-u.false,
-      told_true c.good_written.ensures c.if-not-good_written.false,
-      told_true c.good_selector.ensures c.if-not-good_selector.false,
-      told_true c.good_operand.ensures c.if-not-good_operand.false,
-      told_false c.good_operand-2.ensures c.if-not-good_operand-2.true,
+      held c.good_written.ensures c.if-not-good_written.false,
+      held c.good_selector.ensures c.if-not-good_selector.false,
+      held c.good_operand.ensures c.if-not-good_operand.false,
+      failed c.good_operand-2.ensures c.if-not-good_operand-2.true,
     )
 
 pub returns-then-u : goal.returns-then-u
@@ -44,10 +44,10 @@ unfolding fits_of use_of
 returns-then-u c =
     rw (
       eq-eqb _ _ c.if-f-u.false,
-      told_true c.good_written.ensures c.if-not-good_written.false,
-      told_true c.good_selector.ensures c.if-not-good_selector.false,
-      told_true c.good_operand.ensures c.if-not-good_operand.false,
-      told_true c.good_operand-2.ensures c.if-not-good_operand-2.false,
+      held c.good_written.ensures c.if-not-good_written.false,
+      held c.good_selector.ensures c.if-not-good_selector.false,
+      held c.good_operand.ensures c.if-not-good_operand.false,
+      held c.good_operand-2.ensures c.if-not-good_operand-2.false,
       c.if-u.true,
     )
 
@@ -56,9 +56,9 @@ unfolding fits_of use_of
 returns c =
     rw (
       eq-eqb _ _ c.if-f-u.false,
-      told_true c.good_written.ensures c.if-not-good_written.false,
-      told_true c.good_selector.ensures c.if-not-good_selector.false,
-      told_true c.good_operand.ensures c.if-not-good_operand.false,
-      told_true c.good_operand-2.ensures c.if-not-good_operand-2.false,
+      held c.good_written.ensures c.if-not-good_written.false,
+      held c.good_selector.ensures c.if-not-good_selector.false,
+      held c.good_operand.ensures c.if-not-good_operand.false,
+      held c.good_operand-2.ensures c.if-not-good_operand-2.false,
       c.if-u.false,
     )

@@ -15,11 +15,11 @@ loop-i-init c = (omega arith, refl)
 
 pub returns-then-fits : goal.returns-then-fits
 returns-then-fits c =
-    at_one _ c.row.ensures c.fits2.ensures c.if-fits.true ∙ c.loop-i.invariant.1
+    at_one _ c.row.ensures c.fits.ensures c.if-fits.true ∙ c.loop-i.invariant.1
 
 pub loop-i-preserved : goal.loop-i-preserved
 loop-i-preserved c =
-    (omega arith, past_one _ c.row.ensures c.fits2.ensures c.if-fits.false ∙ c.loop-i.invariant.1)
+    (omega arith, past_one _ c.row.ensures c.fits.ensures c.if-fits.false ∙ c.loop-i.invariant.1)
 
 pub returns : goal.returns
 unfolding any_of layouts

@@ -12,21 +12,20 @@ use Rattle.image.specs.Layout.{label_target, label_place}
 use Rattle.image.proofs.Any.{none_yet, one_more, that_is, all_without}
 use Rattle.cells.proofs.is_label_target.Goals as goal
 
--- what a turn looks at
-looked : (c : goal.After-target_at)
-    → eqb c.target_at.result c.args.target ≡ eqb (label_target c.args.s.now c.loop-k.k) c.args.target
-unfolding label_target label_place target_of
-looked c = rw (c.target_at.ensures, c.cell_count-cells.ensures)
-
 pub loop-k-init : goal.loop-k-init
 loop-k-init c = (omega arith, none_yet _)
 
 pub returns-then-target_at-target : goal.returns-then-target_at-target
-unfolding labelled
-returns-then-target_at-target c = that_is _ c.loop-k.k c.label_count-labels.ensures c.loop-k-test.true (looked c) (eq-eqb _ _ c.if-target_at-target.true)
+unfolding labelled label_target label_place target_of
+returns-then-target_at-target c =
+    let looked : eqb c.target_at.result c.args.target ≡ eqb (label_target c.args.s.now c.loop-k.k) c.args.target = rw (c.target_at.ensures, c.cell_count-cells.ensures) in
+    that_is _ c.loop-k.k c.label_count-labels.ensures c.loop-k-test.true looked (eq-eqb _ _ c.if-target_at-target.true)
 
 pub loop-k-preserved : goal.loop-k-preserved
-loop-k-preserved c = (omega arith, one_more _ c.loop-k.k c.loop-k.invariant.1 (looked c) (ne_eqb _ _ c.if-target_at-target.false))
+unfolding label_target label_place target_of
+loop-k-preserved c =
+    let looked : eqb c.target_at.result c.args.target ≡ eqb (label_target c.args.s.now c.loop-k.k) c.args.target = rw (c.target_at.ensures, c.cell_count-cells.ensures) in
+    (omega arith, one_more _ c.loop-k.k c.loop-k.invariant.1 looked (ne_eqb _ _ c.if-target_at-target.false))
 
 pub returns : goal.returns
 unfolding labelled

@@ -9,12 +9,6 @@ use Rattle.cells.specs.Code.{Marked}
 use Rattle.cells.proofs.Marks.{unmarked, marked_more}
 use Rattle.cells.proofs.label_targets.Goals as goal
 
--- what a turn marks
-looked : (c : goal.After-target_at)
-    → c.target_at.result ≡ label_target c.args.s.now c.loop-k.k
-unfolding label_target label_place target_of
-looked c = rw (c.target_at.ensures, c.cell_count-cells.ensures)
-
 pub loop-k-init : goal.loop-k-init
 loop-k-init c = (omega arith, unmarked 257 _)
 
@@ -22,9 +16,12 @@ pub slice_bounds-mark-end : goal.slice_bounds-mark-end
 slice_bounds-mark-end c = sym c.loop-k.invariant.1.long
 
 pub loop-k-preserved : goal.loop-k-preserved
-loop-k-preserved c = (
+unfolding label_target label_place target_of
+loop-k-preserved c =
+    let looked : c.target_at.result ≡ label_target c.args.s.now c.loop-k.k = rw (c.target_at.ensures, c.cell_count-cells.ensures) in
+    (
   omega arith,
-  rw c.mark.ensures (marked_more 257 _ c.loop-k.k c.loop-k.invariant.1 (looked c)),
+  rw c.mark.ensures (marked_more 257 _ c.loop-k.k c.loop-k.invariant.1 looked),
 )
 
 pub returns : goal.returns

@@ -19,7 +19,7 @@ pub returns-then-k-ge-WORDS : goal.returns-then-k-ge-WORDS
 returns-then-k-ge-WORDS c = words_put c.loop-i.invariant (omega arith) (omega (arith, c.well_formed.1.1.0.1.0.1))
 
 pub loop-i-smaller : goal.loop-i-smaller
-loop-i-smaller c = left_less c.args.t3 c.loop-i.k c.loop-i.rest (omega (arith, c.well_formed.1.1.0.1.0.1))
+loop-i-smaller c = left_less c.args.words c.loop-i.k c.loop-i.rest (omega (arith, c.well_formed.1.1.0.1.0.1))
 
 pub loop-i-preserved : goal.loop-i-preserved
 loop-i-preserved c = word_next c.loop-i.invariant (omega arith) (omega (arith, c.well_formed.1.1.0.1.0.1))
