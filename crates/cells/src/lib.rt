@@ -242,7 +242,7 @@ fn has_layout(variables: u16, aimed: bool, f: Fields) -> bool
 
 fn bad_cell(s: &[u8], marks: &[bool; TARGETS], variables: u16, k: u16) -> bool
     requires marked { Marked 257 (label_target s.now) (label_count s.now) marks.now }
-    requires variables_value { variables ≡ variable_count s.now }
+    requires counted { variables ≡ variable_count s.now }
     ensures { result ≡ bad_cell s.now k }
 {
     let f = fields_at(s, k);

@@ -254,8 +254,8 @@ impl Passed {
 
 // One line more is passed.
 fn pass_line(s: &[u8], rows: &[Row], passed: Passed) -> Passed
-    requires next_in_bounds { (passed.next < length s.now) × Reached s.now passed }
-    requires rows_value { rows.now ≡ arranged (said s.now) }
+    requires reached { (passed.next < length s.now) × Reached s.now passed }
+    requires arranged { rows.now ≡ arranged (said s.now) }
     ensures { OnePassed s.now passed result }
 {
     let at = passed.next;

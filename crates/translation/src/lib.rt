@@ -145,7 +145,7 @@ fn emit_line(rows: &[Row], buffer: &mut [u8], reading: Reading, places: Places) 
 // Puts what the lines of the text say behind one another, from these places on; the text's names are in these rows.
 fn emit_lines(s: &[u8], rows: &[Row], buffer: &mut [u8], start: Places)
     requires faultless { Faultless s.now }
-    requires rows_value { rows.now ≡ arranged (said s.now) }
+    requires arranged { rows.now ≡ arranged (said s.now) }
     requires within { Within 65536 start }
     ensures { buffer.new ≡ emit_from (cell_part (said s.now)) (label_part (said s.now)) variable_part start.cell start.label start.variable (said s.now) buffer.old }
 {
@@ -162,11 +162,11 @@ fn emit_lines(s: &[u8], rows: &[Row], buffer: &mut [u8], start: Places)
 
 // The image of a text without a fault whose names are in these rows, into a buffer with room for it: the lines, and the trailer behind them.
 pub fn write_image(s: &[u8], rows: &[Row], buffer: &mut [u8], counts: Counts)
-    requires s_len_bound { length s.now ≤ 16384 }
-    requires s_value { (first_fault s.now).number ≡ 0 }
-    requires rows_value { rows.now ≡ arranged (said s.now) }
-    requires counts_value { counts ≡ counts_of (said s.now) }
-    requires variables_in_bounds { image_length counts.cells counts.labels counts.variables ≤ length buffer.old }
+    requires short { length s.now ≤ 16384 }
+    requires clear { (first_fault s.now).number ≡ 0 }
+    requires arranged { rows.now ≡ arranged (said s.now) }
+    requires counted { counts ≡ counts_of (said s.now) }
+    requires has_room { image_length counts.cells counts.labels counts.variables ≤ length buffer.old }
     ensures { buffer.new ≡ image_of (said s.now) ++ drop (length (image_of (said s.now))) buffer.old }
 {
     let cells = counts.cells as u16;

@@ -18,44 +18,48 @@ use Rattle.events.proofs.script.is_bad_script.Reads as is-bad-script-reads
 use Rattle.running.proofs.course.Reads as course-reads
 use Rattle.bench.proofs.run.Goals as goal
 
--- the image is accepted; the script is whole; its events are good
-good_image : (c : goal.Else-number-ne0) → checked c.args.image.now ≡ 0
-good_image c = sym c.checked-number.ensures ∙ c.if-number-ne0.false
-
-whole : (c : goal.Else-is_bad_script) → bad_script c.args.events.now ≡ false
-whole c = sym c.is_bad_script.ensures ∙ c.if-is_bad_script.false
-
-counted : (c : goal.After-event_count) {n : ℕ} → n < c.event_count.result → n < event_count c.args.events.now
-counted c h = rw c.event_count.ensures at h
-
-fine : (c : goal.Else-bad-event_count) → bad_events c.args.events.now ≡ false
-fine c = no_bad_event _ c.first_bad_event-bad.ensures (rw c.event_count.ensures at c.if-bad-event_count.false)
-
 pub returns-then-number-ne0 : goal.returns-then-number-ne0
 returns-then-number-ne0 c = refused_image _ _ _ _ c.checked-number.ensures c.if-number-ne0.true c.refused.ensures
 
 pub returns-then-is_bad_script : goal.returns-then-is_bad_script
-returns-then-is_bad_script c = refused_script _ _ _ _ (good_image c) (sym c.is_bad_script.ensures ∙ c.if-is_bad_script.true) c.refused-then-is_bad_script.ensures
+returns-then-is_bad_script c =
+    let good_image : checked c.args.image.now ≡ 0 = sym c.checked-number.ensures ∙ c.if-number-ne0.false in
+    refused_script _ _ _ _ good_image (sym c.is_bad_script.ensures ∙ c.if-is_bad_script.true) c.refused-then-is_bad_script.ensures
 
 pub first_bad_event-bad-requires : goal.first_bad_event-bad-requires
-first_bad_event-bad-requires c = few_events _ (whole c)
+first_bad_event-bad-requires c =
+    let whole : bad_script c.args.events.now ≡ false = sym c.is_bad_script.ensures ∙ c.if-is_bad_script.false in
+    few_events _ whole
 
 pub returns-then-bad-event_count : goal.returns-then-bad-event_count
 returns-then-bad-event_count c =
-    refused_event _ _ _ _ (good_image c) (whole c) c.first_bad_event-bad.ensures (counted c c.if-bad-event_count.true) c.refused-then-bad-event_count.ensures
+    let whole : bad_script c.args.events.now ≡ false = sym c.is_bad_script.ensures ∙ c.if-is_bad_script.false in
+    let good_image : checked c.args.image.now ≡ 0 = sym c.checked-number.ensures ∙ c.if-number-ne0.false in
+    refused_event _ _ _ _ good_image whole c.first_bad_event-bad.ensures (rw c.event_count.ensures at c.if-bad-event_count.true) c.refused-then-bad-event_count.ensures
 
 pub returns-then-budget-gt-MOST_TURNS : goal.returns-then-budget-gt-MOST_TURNS
 returns-then-budget-gt-MOST_TURNS c =
-    refused_budget _ _ _ _ (good_image c) (whole c) (fine c) c.if-budget-gt-MOST_TURNS.true c.refused-then-budget-gt-MOST_TURNS.ensures
+    let fine : bad_events c.args.events.now ≡ false = no_bad_event _ c.first_bad_event-bad.ensures (rw c.event_count.ensures at c.if-bad-event_count.false) in
+    let whole : bad_script c.args.events.now ≡ false = sym c.is_bad_script.ensures ∙ c.if-is_bad_script.false in
+    let good_image : checked c.args.image.now ≡ 0 = sym c.checked-number.ensures ∙ c.if-number-ne0.false in
+    refused_budget _ _ _ _ good_image whole fine c.if-budget-gt-MOST_TURNS.true c.refused-then-budget-gt-MOST_TURNS.ensures
 
 pub returns-then-records-budget : goal.returns-then-records-budget
 returns-then-records-budget c =
-    refused_room _ _ _ _ (good_image c) (whole c) (fine c) c.if-budget-gt-MOST_TURNS.false c.if-records-budget.true c.refused-then-records-budget.ensures
+    let fine : bad_events c.args.events.now ≡ false = no_bad_event _ c.first_bad_event-bad.ensures (rw c.event_count.ensures at c.if-bad-event_count.false) in
+    let whole : bad_script c.args.events.now ≡ false = sym c.is_bad_script.ensures ∙ c.if-is_bad_script.false in
+    let good_image : checked c.args.image.now ≡ 0 = sym c.checked-number.ensures ∙ c.if-number-ne0.false in
+    refused_room _ _ _ _ good_image whole fine c.if-budget-gt-MOST_TURNS.false c.if-records-budget.true c.refused-then-records-budget.ensures
 
 pub course-ended-requires : goal.course-ended-requires
 course-ended-requires c =
-    (whole c, fine c, c.if-records-budget.false)
+    let fine : bad_events c.args.events.now ≡ false = no_bad_event _ c.first_bad_event-bad.ensures (rw c.event_count.ensures at c.if-bad-event_count.false) in
+    let whole : bad_script c.args.events.now ≡ false = sym c.is_bad_script.ensures ∙ c.if-is_bad_script.false in
+    (whole, fine, c.if-records-budget.false)
 
 pub returns : goal.returns
 returns c =
-    ran_as_lem _ _ _ _ (good_image c) (whole c) (fine c) c.if-budget-gt-MOST_TURNS.false c.if-records-budget.false c.course-ended.ensures c.state_of-state.ensures refl
+    let fine : bad_events c.args.events.now ≡ false = no_bad_event _ c.first_bad_event-bad.ensures (rw c.event_count.ensures at c.if-bad-event_count.false) in
+    let whole : bad_script c.args.events.now ≡ false = sym c.is_bad_script.ensures ∙ c.if-is_bad_script.false in
+    let good_image : checked c.args.image.now ≡ 0 = sym c.checked-number.ensures ∙ c.if-number-ne0.false in
+    ran_as_lem _ _ _ _ good_image whole fine c.if-budget-gt-MOST_TURNS.false c.if-records-budget.false c.course-ended.ensures c.state_of-state.ensures refl

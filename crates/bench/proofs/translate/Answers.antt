@@ -18,19 +18,6 @@ use Rattle.names.proofs.survey_lines.Reads as survey-lines-reads
 use Rattle.translation.proofs.write_image.Reads as write-image-reads
 use Rattle.bench.proofs.translate.Goals as goal
 
--- the text has no fault; so the counts are those of its lines, within the limits, and give the image's length
-clean : (c : goal.Else-fault-ne0) → (first_fault c.args.text.now).number ≡ 0
-clean c = sym (ap (λ (f : Fault). f.number) c.survey_lines-survey.ensures.fault) ∙ c.if-fault-ne0.false
-
-tally : (c : goal.Else-fault-ne0) → c.survey_lines-survey.result.counts ≡ counts_of (said c.args.text.now)
-tally c = c.survey_lines-survey.ensures.counts (clean c)
-
-small : (c : goal.Else-fault-ne0) → let n = c.survey_lines-survey.result.counts in (n.cells ≤ 256) × (n.labels ≤ 160) × (n.variables ≤ 32)
-small c = few _ (clean c) (tally c)
-
-size : (c : goal.After-image_length-length) → c.image_length-length.result ≡ length (image c.args.text.now)
-size c = measured _ (clean c) (tally c) c.image_length-length.ensures
-
 pub returns-then-text-gt-LONGEST_TEXT : goal.returns-then-text-gt-LONGEST_TEXT
 returns-then-text-gt-LONGEST_TEXT c = refused_long _ _ c.if-text-gt-LONGEST_TEXT.true c.not_translated.ensures
 
@@ -45,17 +32,37 @@ returns-then-fault-ne0 c =
     refused_line _ _ c.if-text-gt-LONGEST_TEXT.false c.survey_lines-survey.ensures.fault c.if-fault-ne0.true c.not_translated-then-fault-ne0.ensures
 
 pub overflow_cast-counts : goal.overflow_cast-counts
-overflow_cast-counts c = let h = small c in omega arith
+overflow_cast-counts c =
+    let small : let n = c.survey_lines-survey.result.counts in (n.cells ≤ 256) × (n.labels ≤ 160) × (n.variables ≤ 32) = let tally : c.survey_lines-survey.result.counts ≡ counts_of (said c.args.text.now) = let clean : (first_fault c.args.text.now).number ≡ 0 = sym (ap (λ (f : Fault). f.number) c.survey_lines-survey.ensures.fault) ∙ c.if-fault-ne0.false in
+    c.survey_lines-survey.ensures.counts clean in
+    let clean : (first_fault c.args.text.now).number ≡ 0 = sym (ap (λ (f : Fault). f.number) c.survey_lines-survey.ensures.fault) ∙ c.if-fault-ne0.false in
+    few _ clean tally in
+    let h = small in omega arith
 
 pub overflow_cast-counts-2 : goal.overflow_cast-counts-2
-overflow_cast-counts-2 c = let h = small c in omega arith
+overflow_cast-counts-2 c =
+    let small : let n = c.survey_lines-survey.result.counts in (n.cells ≤ 256) × (n.labels ≤ 160) × (n.variables ≤ 32) = let tally : c.survey_lines-survey.result.counts ≡ counts_of (said c.args.text.now) = let clean : (first_fault c.args.text.now).number ≡ 0 = sym (ap (λ (f : Fault). f.number) c.survey_lines-survey.ensures.fault) ∙ c.if-fault-ne0.false in
+    c.survey_lines-survey.ensures.counts clean in
+    let clean : (first_fault c.args.text.now).number ≡ 0 = sym (ap (λ (f : Fault). f.number) c.survey_lines-survey.ensures.fault) ∙ c.if-fault-ne0.false in
+    few _ clean tally in
+    let h = small in omega arith
 
 pub overflow_cast-counts-3 : goal.overflow_cast-counts-3
-overflow_cast-counts-3 c = let h = small c in omega arith
+overflow_cast-counts-3 c =
+    let small : let n = c.survey_lines-survey.result.counts in (n.cells ≤ 256) × (n.labels ≤ 160) × (n.variables ≤ 32) = let tally : c.survey_lines-survey.result.counts ≡ counts_of (said c.args.text.now) = let clean : (first_fault c.args.text.now).number ≡ 0 = sym (ap (λ (f : Fault). f.number) c.survey_lines-survey.ensures.fault) ∙ c.if-fault-ne0.false in
+    c.survey_lines-survey.ensures.counts clean in
+    let clean : (first_fault c.args.text.now).number ≡ 0 = sym (ap (λ (f : Fault). f.number) c.survey_lines-survey.ensures.fault) ∙ c.if-fault-ne0.false in
+    few _ clean tally in
+    let h = small in omega arith
 
 pub returns-then-image-length : goal.returns-then-image-length
 returns-then-image-length c =
-    refused_short _ _ c.if-text-gt-LONGEST_TEXT.false (clean c) (rw (size c) at c.if-image-length.true) c.not_translated-then-image-length.ensures
+    let size : c.image_length-length.result ≡ length (image c.args.text.now) = let tally : c.survey_lines-survey.result.counts ≡ counts_of (said c.args.text.now) = let clean : (first_fault c.args.text.now).number ≡ 0 = sym (ap (λ (f : Fault). f.number) c.survey_lines-survey.ensures.fault) ∙ c.if-fault-ne0.false in
+    c.survey_lines-survey.ensures.counts clean in
+    let clean : (first_fault c.args.text.now).number ≡ 0 = sym (ap (λ (f : Fault). f.number) c.survey_lines-survey.ensures.fault) ∙ c.if-fault-ne0.false in
+    measured _ clean tally c.image_length-length.ensures in
+    let clean : (first_fault c.args.text.now).number ≡ 0 = sym (ap (λ (f : Fault). f.number) c.survey_lines-survey.ensures.fault) ∙ c.if-fault-ne0.false in
+    refused_short _ _ c.if-text-gt-LONGEST_TEXT.false clean (rw size at c.if-image-length.true) c.not_translated-then-image-length.ensures
 
 pub slice_bounds-write_image-end : goal.slice_bounds-write_image-end
 slice_bounds-write_image-end c =
@@ -63,9 +70,17 @@ slice_bounds-write_image-end c =
 
 pub write_image-requires : goal.write_image-requires
 write_image-requires c =
-    (c.if-text-gt-LONGEST_TEXT.false, (clean c, (c.arrange-rows.ensures, (tally c, rw c.image_length-length.ensures at c.if-image-length.false))))
+    let tally : c.survey_lines-survey.result.counts ≡ counts_of (said c.args.text.now) = let clean : (first_fault c.args.text.now).number ≡ 0 = sym (ap (λ (f : Fault). f.number) c.survey_lines-survey.ensures.fault) ∙ c.if-fault-ne0.false in
+    c.survey_lines-survey.ensures.counts clean in
+    let clean : (first_fault c.args.text.now).number ≡ 0 = sym (ap (λ (f : Fault). f.number) c.survey_lines-survey.ensures.fault) ∙ c.if-fault-ne0.false in
+    (c.if-text-gt-LONGEST_TEXT.false, (clean, (c.arrange-rows.ensures, (tally, rw c.image_length-length.ensures at c.if-image-length.false))))
 
 pub returns : goal.returns
 unfolding image
 returns c =
-    translated_as _ _ c.if-text-gt-LONGEST_TEXT.false (clean c) (rw (size c) at c.if-image-length.false) (ap (answered 0 0) (size c)) c.write_image.ensures
+    let size : c.image_length-length.result ≡ length (image c.args.text.now) = let tally : c.survey_lines-survey.result.counts ≡ counts_of (said c.args.text.now) = let clean : (first_fault c.args.text.now).number ≡ 0 = sym (ap (λ (f : Fault). f.number) c.survey_lines-survey.ensures.fault) ∙ c.if-fault-ne0.false in
+    c.survey_lines-survey.ensures.counts clean in
+    let clean : (first_fault c.args.text.now).number ≡ 0 = sym (ap (λ (f : Fault). f.number) c.survey_lines-survey.ensures.fault) ∙ c.if-fault-ne0.false in
+    measured _ clean tally c.image_length-length.ensures in
+    let clean : (first_fault c.args.text.now).number ≡ 0 = sym (ap (λ (f : Fault). f.number) c.survey_lines-survey.ensures.fault) ∙ c.if-fault-ne0.false in
+    translated_as _ _ c.if-text-gt-LONGEST_TEXT.false clean (rw size at c.if-image-length.false) (ap (answered 0 0) size) c.write_image.ensures

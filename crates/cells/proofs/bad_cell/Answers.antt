@@ -5,4 +5,4 @@ use Rattle.cells.proofs.Layouts.{cell_judged_by}
 use Rattle.cells.proofs.bad_cell.Goals as goal
 
 pub returns : goal.returns
-returns c = cell_judged_by _ _ c.requires.variables_value c.fields_at-f.ensures c.good_target-aimed.ensures c.has_layout.ensures
+returns c = cell_judged_by _ _ c.requires.counted c.fields_at-f.ensures c.good_target-aimed.ensures c.has_layout.ensures

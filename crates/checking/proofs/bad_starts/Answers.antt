@@ -13,19 +13,20 @@ use Rattle.checking.specs.Code.{bad_start_of}
 use Rattle.image.proofs.Any.{none_yet, one_more, that_is, all_without}
 use Rattle.checking.proofs.bad_starts.Goals as goal
 
--- what a turn looks at
-looked : (c : goal.After-bad_start) → c.bad_start.result ≡ bad_start c.args.s.now c.loop-k.k
-unfolding bad_start bad_start_of start_value variable_place literal_bits
-looked c = rw (c.bad_start.ensures, c.label_count-labels.ensures, c.cell_count-cells.ensures)
-
 pub loop-k-init : goal.loop-k-init
 loop-k-init c = (omega arith, none_yet _)
 
 pub returns-then-bad_start : goal.returns-then-bad_start
-returns-then-bad_start c = that_is _ c.loop-k.k c.variable_count-variables.ensures c.loop-k-test.true (looked c) c.if-bad_start.true
+unfolding bad_start bad_start_of start_value variable_place literal_bits
+returns-then-bad_start c =
+    let looked : c.bad_start.result ≡ bad_start c.args.s.now c.loop-k.k = rw (c.bad_start.ensures, c.label_count-labels.ensures, c.cell_count-cells.ensures) in
+    that_is _ c.loop-k.k c.variable_count-variables.ensures c.loop-k-test.true looked c.if-bad_start.true
 
 pub loop-k-preserved : goal.loop-k-preserved
-loop-k-preserved c = (omega arith, one_more _ c.loop-k.k c.loop-k.invariant.1 (looked c) c.if-bad_start.false)
+unfolding bad_start bad_start_of start_value variable_place literal_bits
+loop-k-preserved c =
+    let looked : c.bad_start.result ≡ bad_start c.args.s.now c.loop-k.k = rw (c.bad_start.ensures, c.label_count-labels.ensures, c.cell_count-cells.ensures) in
+    (omega arith, one_more _ c.loop-k.k c.loop-k.invariant.1 looked c.if-bad_start.false)
 
 pub returns : goal.returns
 returns c = all_without _ c.loop-k.k c.variable_count-variables.ensures c.loop-k.invariant.0 c.loop-k-test.false c.loop-k.invariant.1

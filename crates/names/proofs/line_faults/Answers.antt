@@ -15,7 +15,7 @@ pub slice_bounds-pass_line-end : goal.slice_bounds-pass_line-end
 slice_bounds-pass_line-end c = sym (ap length c.arrange-rows.ensures ∙ long _)
 
 pub pass_line-passed-requires : goal.pass_line-passed-requires
-pass_line-passed-requires c = ((c.loop-passed-test.true, c.loop-passed.invariant.reached), c.arrange-rows.ensures)
+pass_line-passed-requires c = record { reached = (c.loop-passed-test.true, c.loop-passed.invariant.reached); arranged = c.arrange-rows.ensures }
 
 pub loop-passed-preserved : goal.loop-passed-preserved
 loop-passed-preserved c =

@@ -10,12 +10,6 @@ use Rattle.running.proofs.Turns.{stepped_by}
 use Rattle.running.proofs.Courses.{Underway, underway, past_last, budget_used, stopped, goes_on}
 use Rattle.running.proofs.go_on.Goals as goal
 
--- the turn that was taken
-taken : (c : goal.After-turn-turned)
-    → SteppedBy c.args.image.now c.cell_count-cells.result c.args.events.now c.loop-machine.turns c.loop-machine.event c.loop-machine.machine c.turn-turned.result c.later-left.result
-taken c =
-    stepped_by c.requires.1 c.loop-machine.invariant.inputs c.later-left.ensures c.cell_at-cell.ensures c.turn-turned.ensures
-
 pub loop-machine-init : goal.loop-machine-init
 loop-machine-init c = let p = c.requires in underway _ _ p.2 p.3
 
@@ -42,8 +36,9 @@ loop-machine-smaller c = omega (arith, c.if-last-turns.false)
 
 pub loop-machine-preserved : goal.loop-machine-preserved
 loop-machine-preserved c =
+    let taken : SteppedBy c.args.image.now c.cell_count-cells.result c.args.events.now c.loop-machine.turns c.loop-machine.event c.loop-machine.machine c.turn-turned.result c.later-left.result = stepped_by c.requires.1 c.loop-machine.invariant.inputs c.later-left.ensures c.cell_at-cell.ensures c.turn-turned.ensures in
     goes_on c.loop-machine.invariant c.cell_count-cells.ensures c.requires.4 c.if-cells-machine.false c.if-last-turns.false
-    (taken c) c.write_record-bytes.ensures.0 c.write_record-bytes.ensures.1 c.if-turned.false
+    taken c.write_record-bytes.ensures.0 c.write_record-bytes.ensures.1 c.if-turned.false
 
 pub shape_of-records-then-cells-machine : goal.shape_of-records-then-cells-machine
 shape_of-records-then-cells-machine c = c.loop-machine.invariant.size
@@ -59,9 +54,10 @@ returns-then-last-turns c = budget_used c.loop-machine.invariant c.cell_count-ce
 
 pub shape_of-records-then-turned : goal.shape_of-records-then-turned
 shape_of-records-then-turned c =
-    c.write_record-bytes.auto.0 ∙ c.loop-machine.invariant.size
+    c.write_record-bytes.auto.b ∙ c.loop-machine.invariant.size
 
 pub returns-then-turned : goal.returns-then-turned
 returns-then-turned c =
+    let taken : SteppedBy c.args.image.now c.cell_count-cells.result c.args.events.now c.loop-machine.turns c.loop-machine.event c.loop-machine.machine c.turn-turned.result c.later-left.result = stepped_by c.requires.1 c.loop-machine.invariant.inputs c.later-left.ensures c.cell_at-cell.ensures c.turn-turned.ensures in
     stopped c.loop-machine.invariant c.cell_count-cells.ensures c.requires.4 c.if-cells-machine.false c.if-last-turns.false
-    (taken c) c.write_record-bytes.ensures.0 c.write_record-bytes.ensures.1 c.if-turned.true
+    taken c.write_record-bytes.ensures.0 c.write_record-bytes.ensures.1 c.if-turned.true

@@ -10,12 +10,6 @@ use Rattle.running.proofs.Turns.{stepped_by}
 use Rattle.running.proofs.Visits.{Passing, passing, visited_past, visited_spent, visited_stopped, passes_on}
 use Rattle.running.proofs.visit.Goals as goal
 
--- the turn that was taken
-stepped : (c : goal.After-turn-turned)
-    → SteppedBy c.args.image.now c.cell_count-cells.result c.args.events.now c.loop-taken.taken c.loop-taken.event c.loop-taken.machine c.turn-turned.result c.later-rest.result
-stepped c =
-    stepped_by c.requires.1 c.loop-taken.invariant.inputs c.later-rest.ensures c.cell_at-cell.ensures c.turn-turned.ensures
-
 pub loop-taken-init : goal.loop-taken-init
 loop-taken-init c = passing c.started-machine.ensures
 
@@ -44,20 +38,22 @@ overflow_cast-result-then-turned c =
     record { fits = omega (arith, c.loop-taken-test.true, c.ranges.budget.fits) }
 
 pub shape_of-visits-then-turned : goal.shape_of-visits-then-turned
-shape_of-visits-then-turned c = c.write.auto.0 ∙ c.loop-taken.invariant.size
+shape_of-visits-then-turned c = c.write.auto.b ∙ c.loop-taken.invariant.size
 
 pub returns-then-turned : goal.returns-then-turned
 returns-then-turned c =
+    let stepped : SteppedBy c.args.image.now c.cell_count-cells.result c.args.events.now c.loop-taken.taken c.loop-taken.event c.loop-taken.machine c.turn-turned.result c.later-rest.result = stepped_by c.requires.1 c.loop-taken.invariant.inputs c.later-rest.ensures c.cell_at-cell.ensures c.turn-turned.ensures in
     visited_stopped c.loop-taken.invariant c.cell_count-cells.ensures c.requires.2 c.if-cells-machine.false c.loop-taken-test.true
-    (stepped c) c.write.ensures c.if-turned.true
+    stepped c.write.ensures c.if-turned.true
 
 pub loop-taken-smaller : goal.loop-taken-smaller
 loop-taken-smaller c = omega (arith, c.loop-taken-test.true)
 
 pub loop-taken-preserved : goal.loop-taken-preserved
 loop-taken-preserved c =
+    let stepped : SteppedBy c.args.image.now c.cell_count-cells.result c.args.events.now c.loop-taken.taken c.loop-taken.event c.loop-taken.machine c.turn-turned.result c.later-rest.result = stepped_by c.requires.1 c.loop-taken.invariant.inputs c.later-rest.ensures c.cell_at-cell.ensures c.turn-turned.ensures in
     passes_on c.loop-taken.invariant c.cell_count-cells.ensures c.requires.2 c.if-cells-machine.false c.loop-taken-test.true
-    (stepped c) c.write.ensures c.if-turned.false
+    stepped c.write.ensures c.if-turned.false
 
 pub shape_of-visits : goal.shape_of-visits
 shape_of-visits c = c.loop-taken.invariant.size

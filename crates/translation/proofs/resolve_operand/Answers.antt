@@ -8,7 +8,7 @@ use borrow.Author.Rules.{rules}
 use Rattle.translation.proofs.resolve_operand.Goals as goal
 
 pub overflow_cast-key : goal.overflow_cast-key
-overflow_cast-key c = omega (arith, keyed_variable _ _ c.in-Variable.is c.requires.1)
+overflow_cast-key c = omega (arith, keyed_variable _ _ c.in-Variable.is c.requires.key_operand)
 
 pub returns-in-Literal : goal.returns-in-Literal
 returns-in-Literal c = rw c.in-Literal.is (ap O.Literal (search rules))

@@ -9,10 +9,6 @@ use Rattle.tried.proofs.Trials.{prefix}
 use Rattle.tried.proofs.Visiting.{Fit, fit, text_refused, call_refused, visited}
 use Rattle.tried.proofs.visit_text.Goals as goal
 
--- nothing is refused
-nothing : (c : goal.Else-is_refused) → Fit c.args.events.now c.args.budget (length c.args.visits.now)
-nothing c = fit (sym c.is_refused.ensures ∙ c.if-is_refused.false)
-
 pub returns-then-translated-ne0 : goal.returns-then-translated-ne0
 returns-then-translated-ne0 c = text_refused _ _ c.translate-translated.ensures _ _ _ c.if-translated-ne0.true
 
@@ -27,10 +23,14 @@ pub slice_bounds-visit-end-2 : goal.slice_bounds-visit-end-2
 slice_bounds-visit-end-2 c = sym (length-take-le _ _ (prefix _ _ c.translate-translated.ensures))
 
 pub overflow_cast-budget : goal.overflow_cast-budget
-overflow_cast-budget c = let f = nothing c in record { fits = omega (arith, f.low) }
+overflow_cast-budget c =
+    let nothing : Fit c.args.events.now c.args.budget (length c.args.visits.now) = fit (sym c.is_refused.ensures ∙ c.if-is_refused.false) in
+    let f = nothing in record { fits = omega (arith, f.low) }
 
 pub visit-requires : goal.visit-requires
-visit-requires c = let f = nothing c in (f.whole_script, f.good_events, f.room)
+visit-requires c =
+    let nothing : Fit c.args.events.now c.args.budget (length c.args.visits.now) = fit (sym c.is_refused.ensures ∙ c.if-is_refused.false) in
+    let f = nothing in (f.whole_script, f.good_events, f.room)
 
 pub returns : goal.returns
 returns c =
