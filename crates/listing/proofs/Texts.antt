@@ -33,8 +33,10 @@ use Rattle.listing.proofs.Firsts.{first_key}
 -- A word's key has the word's characters.
 pub packed_word : (w : Name) → IsWord w → packed (key w) ≡ w
 unfolding key
+packed_word [] h = elim h [ ]
 packed_word (a ∷ []) (single p) = packed_number (a ∷ []) (p, tt)
 packed_word (a ∷ b ∷ []) (double p q) = packed_number (a ∷ b ∷ []) (p, (q, tt))
+packed_word (_ ∷ (_ ∷ (_ ∷ _))) h = elim h [ ]
 
 -- A mnemonic, a name, a sign and what stands behind it, however they are put together.
 joined : (m w x : List ℕ) (sign : ℕ) → (m ++ (32 ∷ (w ++ (sign ∷ [])))) ++ (x ++ (10 ∷ [])) ≡ (m ++ (32 ∷ (w ++ (sign ∷ x)))) ++ (10 ∷ [])
