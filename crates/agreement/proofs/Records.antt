@@ -123,7 +123,7 @@ module _ (xs : List Line) (f : Fine xs) where
 
       pub label_name_lem : name_at (image_of xs) (label_place (image_of xs) (how_many makes_label before)) ≡ w
       unfolding label_bytes
-      label_name =
+      label_name_lem =
           let more : List ℕ = bytes 2 (place_of xs w) ++ label_rest xs rest in
           let spread : image_of xs ≡ label_front xs before ++ (w ++ more) = label_split ∙ simp append_assoc in
           ap (λ (s : List ℕ). name_at s (label_place (image_of xs) (how_many makes_label before))) spread
@@ -172,7 +172,7 @@ module _ (xs : List Line) (f : Fine xs) where
 
       pub variable_name_lem : name_at (image_of xs) (variable_place (image_of xs) (how_many makes_variable before)) ≡ w
       unfolding variable_bytes
-      variable_name =
+      variable_name_lem =
           let more : List ℕ = bytes 2 0 ++ (bytes 4 (digits32 z) ++ variable_rest xs rest) in
           let spread : image_of xs ≡ variable_front xs before ++ (w ++ more) = variable_split ∙ simp append_assoc in
           ap (λ (s : List ℕ). name_at s (variable_place (image_of xs) (how_many makes_variable before))) spread

@@ -10,12 +10,6 @@ use Rattle.names.specs.Code.{counts_of}
 use Rattle.translation.specs.Images.{image}
 use Rattle.bench.specs.Translating.{answered}
 use Rattle.bench.proofs.Translations.{few, measured, refused_long, refused_line, refused_short, translated_as}
-use Rattle.bench.proofs.translate.Reads as reads
-use Rattle.bench.proofs.translate.Lts as lts
-use Rattle.bench.proofs.answers.not_translated.Reads as not-translated-reads
-use Rattle.image.proofs.image_length.Reads as image-length-reads
-use Rattle.names.proofs.survey_lines.Reads as survey-lines-reads
-use Rattle.translation.proofs.write_image.Reads as write-image-reads
 use Rattle.bench.proofs.translate.Goals as goal
 
 pub returns-then-text-gt-LONGEST_TEXT : goal.returns-then-text-gt-LONGEST_TEXT
@@ -33,54 +27,47 @@ returns-then-fault-ne0 c =
 
 pub overflow_cast-counts : goal.overflow_cast-counts
 overflow_cast-counts c =
-    let small : let n = c.survey_lines-survey.result.counts in (n.cells ≤ 256) × (n.labels ≤ 160) × (n.variables ≤ 32) = let tally : c.survey_lines-survey.result.counts ≡ counts_of (said c.args.text.now) = let clean : (first_fault c.args.text.now).number ≡ 0 = sym (ap (λ (f : Fault). f.number) c.survey_lines-survey.ensures.fault) ∙ c.if-fault-ne0.false in
-    c.survey_lines-survey.ensures.counts clean in
     let clean : (first_fault c.args.text.now).number ≡ 0 = sym (ap (λ (f : Fault). f.number) c.survey_lines-survey.ensures.fault) ∙ c.if-fault-ne0.false in
-    few _ clean tally in
-    let h = small in omega arith
+    let tally = c.survey_lines-survey.ensures.counts clean in
+    let h = few _ clean tally in omega arith
 
 pub overflow_cast-counts-2 : goal.overflow_cast-counts-2
 overflow_cast-counts-2 c =
-    let small : let n = c.survey_lines-survey.result.counts in (n.cells ≤ 256) × (n.labels ≤ 160) × (n.variables ≤ 32) = let tally : c.survey_lines-survey.result.counts ≡ counts_of (said c.args.text.now) = let clean : (first_fault c.args.text.now).number ≡ 0 = sym (ap (λ (f : Fault). f.number) c.survey_lines-survey.ensures.fault) ∙ c.if-fault-ne0.false in
-    c.survey_lines-survey.ensures.counts clean in
     let clean : (first_fault c.args.text.now).number ≡ 0 = sym (ap (λ (f : Fault). f.number) c.survey_lines-survey.ensures.fault) ∙ c.if-fault-ne0.false in
-    few _ clean tally in
-    let h = small in omega arith
+    let tally = c.survey_lines-survey.ensures.counts clean in
+    let h = few _ clean tally in omega arith
 
 pub overflow_cast-counts-3 : goal.overflow_cast-counts-3
 overflow_cast-counts-3 c =
-    let small : let n = c.survey_lines-survey.result.counts in (n.cells ≤ 256) × (n.labels ≤ 160) × (n.variables ≤ 32) = let tally : c.survey_lines-survey.result.counts ≡ counts_of (said c.args.text.now) = let clean : (first_fault c.args.text.now).number ≡ 0 = sym (ap (λ (f : Fault). f.number) c.survey_lines-survey.ensures.fault) ∙ c.if-fault-ne0.false in
-    c.survey_lines-survey.ensures.counts clean in
     let clean : (first_fault c.args.text.now).number ≡ 0 = sym (ap (λ (f : Fault). f.number) c.survey_lines-survey.ensures.fault) ∙ c.if-fault-ne0.false in
-    few _ clean tally in
-    let h = small in omega arith
+    let tally = c.survey_lines-survey.ensures.counts clean in
+    let h = few _ clean tally in omega arith
 
 pub returns-then-image-length : goal.returns-then-image-length
 returns-then-image-length c =
-    let size : c.image_length-length.result ≡ length (image c.args.text.now) = let tally : c.survey_lines-survey.result.counts ≡ counts_of (said c.args.text.now) = let clean : (first_fault c.args.text.now).number ≡ 0 = sym (ap (λ (f : Fault). f.number) c.survey_lines-survey.ensures.fault) ∙ c.if-fault-ne0.false in
-    c.survey_lines-survey.ensures.counts clean in
     let clean : (first_fault c.args.text.now).number ≡ 0 = sym (ap (λ (f : Fault). f.number) c.survey_lines-survey.ensures.fault) ∙ c.if-fault-ne0.false in
-    measured _ clean tally c.image_length-length.ensures in
-    let clean : (first_fault c.args.text.now).number ≡ 0 = sym (ap (λ (f : Fault). f.number) c.survey_lines-survey.ensures.fault) ∙ c.if-fault-ne0.false in
+    let tally = c.survey_lines-survey.ensures.counts clean in
+    let size : c.image_length-length.result ≡ length (image c.args.text.now) = measured _ clean tally c.image_length-length.ensures in
     refused_short _ _ c.if-text-gt-LONGEST_TEXT.false clean (rw size at c.if-image-length.true) c.not_translated-then-image-length.ensures
 
 pub slice_bounds-write_image-end : goal.slice_bounds-write_image-end
-slice_bounds-write_image-end c =
-    sym (ap length c.arrange-rows.ensures ∙ long _)
+slice_bounds-write_image-end c = sym (ap length c.arrange-rows.ensures ∙ long _)
 
 pub write_image-requires : goal.write_image-requires
 write_image-requires c =
-    let tally : c.survey_lines-survey.result.counts ≡ counts_of (said c.args.text.now) = let clean : (first_fault c.args.text.now).number ≡ 0 = sym (ap (λ (f : Fault). f.number) c.survey_lines-survey.ensures.fault) ∙ c.if-fault-ne0.false in
-    c.survey_lines-survey.ensures.counts clean in
     let clean : (first_fault c.args.text.now).number ≡ 0 = sym (ap (λ (f : Fault). f.number) c.survey_lines-survey.ensures.fault) ∙ c.if-fault-ne0.false in
-    (c.if-text-gt-LONGEST_TEXT.false, (clean, (c.arrange-rows.ensures, (tally, rw c.image_length-length.ensures at c.if-image-length.false))))
+    record {
+      short = c.if-text-gt-LONGEST_TEXT.false;
+      clear = clean;
+      arranged = c.arrange-rows.ensures;
+      counted = c.survey_lines-survey.ensures.counts clean;
+      has_room = rw c.image_length-length.ensures at c.if-image-length.false;
+    }
 
 pub returns : goal.returns
 unfolding image
 returns c =
-    let size : c.image_length-length.result ≡ length (image c.args.text.now) = let tally : c.survey_lines-survey.result.counts ≡ counts_of (said c.args.text.now) = let clean : (first_fault c.args.text.now).number ≡ 0 = sym (ap (λ (f : Fault). f.number) c.survey_lines-survey.ensures.fault) ∙ c.if-fault-ne0.false in
-    c.survey_lines-survey.ensures.counts clean in
     let clean : (first_fault c.args.text.now).number ≡ 0 = sym (ap (λ (f : Fault). f.number) c.survey_lines-survey.ensures.fault) ∙ c.if-fault-ne0.false in
-    measured _ clean tally c.image_length-length.ensures in
-    let clean : (first_fault c.args.text.now).number ≡ 0 = sym (ap (λ (f : Fault). f.number) c.survey_lines-survey.ensures.fault) ∙ c.if-fault-ne0.false in
+    let tally = c.survey_lines-survey.ensures.counts clean in
+    let size : c.image_length-length.result ≡ length (image c.args.text.now) = measured _ clean tally c.image_length-length.ensures in
     translated_as _ _ c.if-text-gt-LONGEST_TEXT.false clean (rw size at c.if-image-length.false) (ap (answered 0 0) size) c.write_image.ensures
