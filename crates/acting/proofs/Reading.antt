@@ -2,7 +2,6 @@
 -- Assumes nothing.
 use mathlib.Core.Path.{◌≡◌, refl, sym, ap, ◌∙◌}
 use mathlib.Core.Bool.{Bool, true, false, cond, ◌&&◌, ◌||◌, not, and-true, and-false, or-false, true≢false}
-use mathlib.Core.List.{List, [], ◌∷◌}
 use Prim.Native.Nat.{ℕ}
 use borrow.Author.Tests.{not-false}
 use lib.Dec.{eqb}
@@ -13,11 +12,8 @@ use Rattle.program.specs.declared.Operand.{Operand}
 use Rattle.program.specs.declared.Operand.TheVariants as O
 use Rattle.program.specs.Statements.{Always, Compare, Statement, compared, operands}
 use Rattle.program.specs.Cells.{same, no_target, comparison_of, value_of, condition_of, hold_of, statement_by, statement_of}
-use types.Run.{OneOf, miss}
-use denote.Enum.Declared.{tag_of}
 use Rattle.effects.specs.declared.Effect.{Effect}
 use Rattle.effects.specs.declared.Effect.TheVariants.{Fails, Stores, Passes, Goes, Calls, Returns, Ends, Stays, Holds, Arms, Disarms, Moves, Slews, Prints}
-use Rattle.effects.specs.contracts.Effect.{the_type}
 use Rattle.effects.specs.Deeds.{in_error, is_er, reads_er}
 
 -- Whether an operand of a statement is ER.

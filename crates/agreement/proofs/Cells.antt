@@ -12,7 +12,7 @@ use Rattle.numbers.proofs.Tests.{each_then}
 use Rattle.numbers.proofs.Truth.{true_is}
 use Rattle.program.specs.Names.{Name}
 use Rattle.program.specs.Variables.{literals, present, read_only}
-use Rattle.program.specs.Cells.{cell, cell_of, operand_of, no_target}
+use Rattle.program.specs.Cells.{cell_of, operand_of, no_target}
 use Rattle.program.specs.Statements.{Value, Literal, Variable, Statement, operands, writes, targets}
 use Rattle.program.proofs.Ranges.{by_present}
 use Rattle.program.proofs.Statements.{cell_has, both_read, all_written, all_aimed}

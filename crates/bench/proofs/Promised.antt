@@ -8,7 +8,6 @@ use Rattle.numbers.specs.Tests.{Each}
 use Rattle.numbers.proofs.Tests.{each_then, each_both}
 use Rattle.image.specs.Check.{checked}
 use Rattle.agreement.proofs.Checked.{image_checked}
-use Rattle.translation.specs.Images.{image}
 use Rattle.bench.specs.Translating.{answered, translated}
 use Rattle.bench.specs.Running.{checked_as, ran}
 use Rattle.bench.specs.Calls.{Translates, Checks, Runs}

@@ -15,7 +15,7 @@ use Rattle.numbers.specs.Bytes.{ascii}
 use Rattle.numbers.specs.Tests.{eq_list}
 use Rattle.numbers.proofs.Truth.{is_true, eqb_turn, same_test, of_both, cond_yes, cond_no}
 use Rattle.program.specs.Names.{Name, two_characters, user_name}
-use Rattle.program.specs.Code.{key, name_of}
+use Rattle.program.specs.Code.{name_of}
 use Rattle.program.specs.Statements as Said
 use Rattle.program.specs.Statements.{Literal, Variable, BitXor, AtLeast}
 use Rattle.program.proofs.Keys.{Characters, IsWord, two_word, user_word}
@@ -25,7 +25,6 @@ use Rattle.text.specs.Forms.{digits, decimal, took, literal, variable, operand, 
 use Rattle.text.specs.Code.{short_key, token, pack, no_token, spelt, known, is_operator, is_comparison, or_else, token_at}
 use Rattle.forms.specs.Code.{taken, zero_value, meaning, value_of, start_of, literal_by, variable_by, operand_by, operator_by, comparison_by, onward, with_name, with_written, with_operator, with_comparison, with_left, with_right, with_start, word_by, slot_by, fill_by, parts_of, found_by, value_by, fits_by, kept_by}
 use Rattle.text.specs.declared.tokens.Token.{Token}
-use Rattle.forms.specs.declared.Value.{Value}
 use Rattle.forms.specs.declared.Value.TheVariants as Val
 use Rattle.forms.specs.declared.Taken.{Taken}
 use Rattle.forms.specs.declared.Match.{Match}

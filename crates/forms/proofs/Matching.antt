@@ -12,7 +12,7 @@ use lib.Dec.{T, eqb, eqb→eq}
 use lib.ListN.{length, drop, get_or, drop_of_length-le}
 use lib.Seq.{drop-cons}
 use Rattle.numbers.specs.Tests.{all_of}
-use Rattle.program.specs.Code.{key, name_of}
+use Rattle.program.specs.Code.{name_of}
 use Rattle.numbers.proofs.Truth.{both, of_both, cond_yes, cond_no}
 use Rattle.text.specs.Forms.{variable_name}
 use Rattle.text.specs.Code.{token_at}

@@ -1,6 +1,6 @@
 -- Document 01, "Image": what stands in which byte, written and read back.
 -- Assumes nothing.
-use Rattle.std.specs.Prelude.{cond, List, [], ◌++◌, ℕ, ◌+◌, ◌*◌, ◌-◌, ◌/◌, ◌%◌, eqb, ℤ, length, take, drop}
+use Rattle.std.specs.Prelude.{cond, List, ◌++◌, ℕ, ◌+◌, ◌*◌, ◌-◌, ◌/◌, ◌%◌, eqb, ℤ, length, take, drop}
 use Rattle.numbers.specs.Bytes.{bytes, field}
 use Rattle.numbers.specs.Bits.{digits32, signed32}
 use Rattle.numbers.specs.Tests.{listed}

@@ -18,7 +18,7 @@ use Rattle.program.specs.Statements.{Statement, is_hold}
 use Rattle.effects.specs.declared.Effect.{Effect}
 use Rattle.effects.specs.declared.Effect.TheVariants.{Fails, Stores, Passes, Goes, Calls, Returns, Ends, Stays, Holds, Arms, Disarms, Moves, Slews, Prints}
 use Rattle.effects.specs.contracts.Effect.{the_type}
-use Rattle.effects.specs.Effects.{read, effect}
+use Rattle.effects.specs.Effects.{read}
 use Rattle.effects.specs.Deeds.{Deed, in_error, clears, deed}
 use Rattle.effects.proofs.Reading.{error_clears_nothing, in_error_lem}
 use Rattle.machine.specs.declared.Machine.{Machine}

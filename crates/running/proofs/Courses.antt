@@ -14,7 +14,7 @@ use Rattle.machine.specs.declared.Machine.{Machine}
 use Rattle.machine.specs.declared.Turned.{Turned}
 use Rattle.machine.specs.Turn.{start_machine}
 use Rattle.events.specs.Events.{event_count, record_bytes}
-use Rattle.machine.specs.Run.{Course, plain, before, ends, course_of, over}
+use Rattle.machine.specs.Run.{Course, plain, ends, course_of, over}
 use Rattle.machine.specs.Code.{Inputs}
 use Rattle.machine.proofs.Inputs.{inputs_start}
 use Rattle.events.proofs.Written.{record_most}

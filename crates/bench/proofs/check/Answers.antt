@@ -2,9 +2,6 @@
 use mathlib.Core.Path.{ap}
 use Prim.Native.Nat.{ℕ}
 use Rattle.bench.specs.Running.{checked_as}
-use Rattle.bench.proofs.check.Reads as reads
-use Rattle.bench.proofs.check.Lts as lts
-use Rattle.checking.proofs.checked.Reads as checked-reads
 use Rattle.bench.proofs.check.Goals as goal
 
 pub returns : goal.returns

@@ -2,11 +2,6 @@
 use mathlib.Core.Path.{sym, ◌∙◌}
 use native.Mathlib.Omega.{arith}
 use Rattle.bench.proofs.Listings.{page_room, list_refused, list_short, list_fits}
-use Rattle.bench.proofs.list.Reads as reads
-use Rattle.bench.proofs.list.Lts as lts
-use Rattle.bench.proofs.answers.not_listed.Reads as not-listed-reads
-use Rattle.checking.proofs.checked.Reads as checked-reads
-use Rattle.printing.proofs.write_listing.Reads as write-listing-reads
 use Rattle.bench.proofs.list.Goals as goal
 
 pub returns-then-number-ne0 : goal.returns-then-number-ne0

@@ -1,21 +1,10 @@
 -- `run` meets its contract: each refusal behind the tests before it, then the course of the image.
 use mathlib.Core.Path.{◌≡◌, refl, sym, ◌∙◌}
 use mathlib.Core.Bool.{false}
-use Prim.Native.Nat.{ℕ, ◌<◌}
-use native.Mathlib.Omega.{arith}
 use Rattle.image.specs.Check.{checked}
-use Rattle.events.specs.Events.{bad_script, bad_events, event_count}
+use Rattle.events.specs.Events.{bad_script, bad_events}
 use Rattle.running.proofs.Scripts.{few_events}
 use Rattle.bench.proofs.Refusals.{refused_image, refused_script, refused_event, no_bad_event, refused_budget, refused_room, ran_as_lem}
-use Rattle.bench.proofs.run.Reads as reads
-use Rattle.bench.proofs.run.Lts as lts
-use Rattle.bench.proofs.answers.refused.Reads as refused-reads
-use Rattle.bench.proofs.answers.state_of.Reads as state-of-reads
-use Rattle.checking.proofs.checked.Reads as checked-reads
-use Rattle.events.proofs.script.event_count.Reads as event-count-reads
-use Rattle.events.proofs.script.first_bad_event.Reads as first-bad-event-reads
-use Rattle.events.proofs.script.is_bad_script.Reads as is-bad-script-reads
-use Rattle.running.proofs.course.Reads as course-reads
 use Rattle.bench.proofs.run.Goals as goal
 
 pub returns-then-number-ne0 : goal.returns-then-number-ne0

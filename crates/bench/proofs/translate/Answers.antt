@@ -1,12 +1,10 @@
 -- `translate` meets its contract: each refusal behind the tests before it, then the image of the text.
 use mathlib.Core.Path.{◌≡◌, sym, ap, ◌∙◌}
-use Prim.Native.Nat.{◌≤◌}
 use native.Mathlib.Omega.{arith}
 use lib.ListN.{length}
-use Rattle.text.specs.Faults.{said, first_fault}
+use Rattle.text.specs.Faults.{first_fault}
 use Rattle.text.specs.declared.Fault.{Fault}
 use Rattle.rows.proofs.Seeking.{long}
-use Rattle.names.specs.Code.{counts_of}
 use Rattle.translation.specs.Images.{image}
 use Rattle.bench.specs.Translating.{answered}
 use Rattle.bench.proofs.Translations.{few, measured, refused_long, refused_line, refused_short, translated_as}

@@ -1,6 +1,5 @@
 -- `bad_cell` meets its contract: no layout fits the fields.
 -- Assumes nothing.
-use borrow.Author.Rules.{rules}
 use Rattle.cells.proofs.Layouts.{cell_judged_by}
 use Rattle.cells.proofs.bad_cell.Goals as goal
 

@@ -1,12 +1,7 @@
 -- `bad_cells` meets its contract: the loop searches the cells. The invariant: none was found before.
 -- Assumes nothing.
-use mathlib.Core.Bool.{false}
-use mathlib.Core.Path.{◌≡◌}
-use Prim.Native.Nat.{◌≤◌, ◌-◌}
 use native.Mathlib.Omega.{arith}
-use borrow.Author.Rules.{rules}
-use Rattle.numbers.specs.Tests.{any_below}
-use Rattle.image.specs.Check.{bad_cell, bad_cells}
+use Rattle.image.specs.Check.{bad_cells}
 use Rattle.image.proofs.Any.{none_yet, one_more, that_is, all_without}
 use Rattle.cells.proofs.bad_cells.Goals as goal
 

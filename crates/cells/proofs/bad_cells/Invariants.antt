@@ -3,11 +3,8 @@
 use mathlib.Core.Bool.{false}
 use mathlib.Core.Path.{◌≡◌}
 use Prim.Native.Nat.{◌≤◌, ◌-◌}
-use native.Mathlib.Omega.{arith}
-use borrow.Author.Rules.{rules}
 use Rattle.numbers.specs.Tests.{any_below}
-use Rattle.image.specs.Check.{bad_cell, bad_cells}
-use Rattle.image.proofs.Any.{none_yet, one_more, that_is, all_without}
+use Rattle.image.specs.Check.{bad_cell}
 use Rattle.cells.proofs.bad_cells.Given as goal
 
 abbrev pub invariant-loop-k : goal.invariant-loop-k

@@ -1,6 +1,5 @@
 -- `fields_at` meets its contract: field by field.
 -- Assumes nothing.
-use native.Mathlib.Omega.{arith}
 use Rattle.cells.specs.Code.{fields_at}
 use Rattle.cells.proofs.fields_at.Goals as goal
 

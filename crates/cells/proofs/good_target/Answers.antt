@@ -1,6 +1,5 @@
 -- `good_target` meets its contract: by `OE 0`, and by whether the target is in the table.
 -- Assumes nothing.
-use native.Mathlib.Omega.{arith}
 use Rattle.program.specs.Cells.{no_target}
 use Rattle.image.specs.Code.{labelled}
 use Rattle.image.specs.Check.{good_target}

@@ -1,11 +1,8 @@
 -- `has_layout` meets its contract: the loop searches the table. Its invariant: the rows from here on give what all give.
 -- Assumes nothing.
 use mathlib.Core.Path.{◌≡◌, refl, ◌∙◌}
-use Prim.Native.Nat.{◌≤◌, ◌-◌}
 use native.Mathlib.Omega.{arith}
-use lib.ListN.{drop}
 use Rattle.numbers.specs.Tests.{any_of}
-use Rattle.cells.specs.Code.{fits_of}
 use Rattle.image.specs.Check.{layouts}
 use Rattle.image.proofs.Any.{past_one, at_one}
 use Rattle.cells.proofs.has_layout.Goals as goal

@@ -1,12 +1,9 @@
 -- `is_label_target` meets its contract: the loop searches the label records. The invariant: none was found before.
 -- Assumes nothing.
-use mathlib.Core.Bool.{false}
 use mathlib.Core.Path.{◌≡◌}
-use Prim.Native.Nat.{◌≤◌, ◌-◌}
 use native.Mathlib.Omega.{arith}
 use borrow.Author.Tests.{eq-eqb, ne_eqb}
 use lib.Dec.{eqb}
-use Rattle.numbers.specs.Tests.{any_below}
 use Rattle.image.specs.Code.{labelled, target_of}
 use Rattle.image.specs.Layout.{label_target, label_place}
 use Rattle.image.proofs.Any.{none_yet, one_more, that_is, all_without}

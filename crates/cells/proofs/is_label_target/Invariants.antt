@@ -3,13 +3,9 @@
 use mathlib.Core.Bool.{false}
 use mathlib.Core.Path.{◌≡◌}
 use Prim.Native.Nat.{◌≤◌, ◌-◌}
-use native.Mathlib.Omega.{arith}
-use borrow.Author.Tests.{eq-eqb, ne_eqb}
 use lib.Dec.{eqb}
 use Rattle.numbers.specs.Tests.{any_below}
-use Rattle.image.specs.Code.{labelled, target_of}
-use Rattle.image.specs.Layout.{label_target, label_place}
-use Rattle.image.proofs.Any.{none_yet, one_more, that_is, all_without}
+use Rattle.image.specs.Layout.{label_target}
 use Rattle.cells.proofs.is_label_target.Given as goal
 
 abbrev pub invariant-loop-k : goal.invariant-loop-k

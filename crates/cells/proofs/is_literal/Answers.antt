@@ -2,7 +2,6 @@
 -- Assumes nothing.
 use mathlib.Core.Path.{◌∙◌}
 use Rattle.numbers.proofs.Kit.{fit32, wide, back64}
-use Rattle.program.specs.Variables.{literals}
 use Rattle.cells.specs.Code.{literal_bits}
 use Rattle.cells.proofs.is_literal.Goals as goal
 

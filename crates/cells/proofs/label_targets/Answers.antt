@@ -1,11 +1,9 @@
 -- `label_targets` meets its contract. The invariant: the targets passed are marked.
 -- Assumes nothing.
 use mathlib.Core.Path.{◌≡◌, sym}
-use Prim.Native.Nat.{◌≤◌, ◌-◌}
 use native.Mathlib.Omega.{arith}
 use Rattle.image.specs.Layout.{label_count, label_target, label_place}
 use Rattle.image.specs.Code.{target_of}
-use Rattle.cells.specs.Code.{Marked}
 use Rattle.cells.proofs.Marks.{unmarked, marked_more}
 use Rattle.cells.proofs.label_targets.Goals as goal
 
@@ -18,11 +16,10 @@ slice_bounds-mark-end c = sym c.loop-k.invariant.1.long
 pub loop-k-preserved : goal.loop-k-preserved
 unfolding label_target label_place target_of
 loop-k-preserved c =
-    let looked : c.target_at.result ≡ label_target c.args.s.now c.loop-k.k = rw (c.target_at.ensures, c.cell_count-cells.ensures) in
-    (
-  omega arith,
-  rw c.mark.ensures (marked_more 257 _ c.loop-k.k c.loop-k.invariant.1 looked),
-)
+    let looked : c.target_at.result ≡ label_target c.args.s.now c.loop-k.k = rw (c.target_at.ensures, c.cell_count-cells.ensures) in (
+      omega arith,
+      rw c.mark.ensures (marked_more 257 _ c.loop-k.k c.loop-k.invariant.1 looked),
+    )
 
 pub returns : goal.returns
 returns c =

@@ -1,12 +1,8 @@
 -- `label_targets` meets its contract. The invariant: the targets passed are marked.
 -- Assumes nothing.
-use mathlib.Core.Path.{◌≡◌, sym}
 use Prim.Native.Nat.{◌≤◌, ◌-◌}
-use native.Mathlib.Omega.{arith}
-use Rattle.image.specs.Layout.{label_count, label_target, label_place}
-use Rattle.image.specs.Code.{target_of}
+use Rattle.image.specs.Layout.{label_target}
 use Rattle.cells.specs.Code.{Marked}
-use Rattle.cells.proofs.Marks.{unmarked, marked_more}
 use Rattle.cells.proofs.label_targets.Given as goal
 
 abbrev pub invariant-loop-k : goal.invariant-loop-k

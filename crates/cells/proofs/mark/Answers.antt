@@ -1,8 +1,6 @@
 -- `mark` meets its contract: past the end nothing is set.
 -- Assumes nothing.
 use mathlib.Core.Path.{sym}
-use native.Mathlib.Omega.{arith}
-use borrow.Author.Rules.{rules}
 use lib.Seq.{set_out}
 use Rattle.cells.proofs.mark.Goals as goal
 

@@ -1,6 +1,5 @@
 -- `row` meets its contract: the code's table is that of the layouts, as numbers.
 -- Assumes nothing.
-use native.Mathlib.Omega.{arith}
 use Rattle.image.specs.Check.{layouts}
 use Rattle.cells.specs.Code.{use_of}
 use Rattle.cells.proofs.Layouts.{row_split}

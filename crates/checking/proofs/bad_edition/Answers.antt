@@ -1,6 +1,5 @@
 -- `bad_edition` meets its contract: the test as it stands.
 -- Assumes nothing.
-use borrow.Author.Rules.{rules}
 use Rattle.image.specs.Check.{bad_edition}
 use Rattle.checking.proofs.bad_edition.Goals as goal
 

@@ -1,14 +1,10 @@
 -- `bad_names` meets its contract: the loop searches the records, and a bad key is a bad name. The invariant: none was found before,
 -- and the names passed are marked.
 -- Assumes nothing.
-use mathlib.Core.Bool.{false}
 use mathlib.Core.Path.{◌≡◌, ap₂, ◌∙◌}
-use Prim.Native.Nat.{ℕ, ◌+◌, ◌≤◌, ◌-◌}
+use Prim.Native.Nat.{ℕ, ◌+◌, ◌≤◌}
 use native.Mathlib.Omega.{arith}
-use borrow.Author.Rules.{rules}
-use Rattle.numbers.specs.Tests.{any_below}
-use Rattle.cells.specs.Code.{Marked}
-use Rattle.checking.specs.Code.{key_of, bad_key}
+use Rattle.checking.specs.Code.{bad_key}
 use Rattle.image.specs.Check.{bad_name}
 use Rattle.image.proofs.Any.{none_yet, one_more, that_is, all_without}
 use Rattle.cells.proofs.Marks.{unmarked, marked_more}
@@ -31,7 +27,7 @@ returns-then-not-is_free_name c =
     let el = c.label_count-labels.ensures in
     let ev = c.variable_count.ensures in
     ap₂ (λ (cells labels : ℕ). bad_key cells labels s c.loop-k.k) c.cell_count-cells.ensures el
-    ∙ bad_key_lem s (λ i. (c.shared_slice_known-1.given i).fits) (fitting s c.requires) c.loop-k.k (omega (arith, c.loop-k-test.true)) in
+    ∙ bad_key_lem s (λ i. (c.type_inv.s i).fits) (fitting s c.requires) c.loop-k.k (omega (arith, c.loop-k-test.true)) in
     that_is _ c.loop-k.k (ap₂ (λ (n m : ℕ). n + m) c.label_count-labels.ensures c.variable_count.ensures) c.loop-k-test.true
     looked (not_free _ _ _ _ c.key_at-key.ensures c.is_free_name.ensures c.if-not-is_free_name.true)
 
@@ -44,7 +40,7 @@ returns-then-seen-i c =
     let el = c.label_count-labels.ensures in
     let ev = c.variable_count.ensures in
     ap₂ (λ (cells labels : ℕ). bad_key cells labels s c.loop-k.k) c.cell_count-cells.ensures el
-    ∙ bad_key_lem s (λ i. (c.shared_slice_known-1.given i).fits) (fitting s c.requires) c.loop-k.k (omega (arith, c.loop-k-test.true)) in
+    ∙ bad_key_lem s (λ i. (c.type_inv.s i).fits) (fitting s c.requires) c.loop-k.k (omega (arith, c.loop-k-test.true)) in
     that_is _ c.loop-k.k (ap₂ (λ (n m : ℕ). n + m) c.label_count-labels.ensures c.variable_count.ensures) c.loop-k-test.true
     looked (free _ _ _ _ c.key_at-key.ensures c.is_free_name.ensures c.if-not-is_free_name.false c.loop-k.invariant.2 c.if-seen-i.true)
 
@@ -63,13 +59,12 @@ loop-k-preserved c =
     let el = c.label_count-labels.ensures in
     let ev = c.variable_count.ensures in
     ap₂ (λ (cells labels : ℕ). bad_key cells labels s c.loop-k.k) c.cell_count-cells.ensures el
-    ∙ bad_key_lem s (λ i. (c.shared_slice_known-1.given i).fits) (fitting s c.requires) c.loop-k.k (omega (arith, c.loop-k-test.true)) in
-    (
-  omega arith,
-  one_more _ c.loop-k.k c.loop-k.invariant.1 looked
-      (free _ _ _ _ c.key_at-key.ensures c.is_free_name.ensures c.if-not-is_free_name.false c.loop-k.invariant.2 c.if-seen-i.false),
-  marked_more 23296 _ c.loop-k.k c.loop-k.invariant.2 c.key_at-key.ensures,
-)
+    ∙ bad_key_lem s (λ i. (c.type_inv.s i).fits) (fitting s c.requires) c.loop-k.k (omega (arith, c.loop-k-test.true)) in (
+      omega arith,
+      one_more _ c.loop-k.k c.loop-k.invariant.1 looked
+          (free _ _ _ _ c.key_at-key.ensures c.is_free_name.ensures c.if-not-is_free_name.false c.loop-k.invariant.2 c.if-seen-i.false),
+      marked_more 23296 _ c.loop-k.k c.loop-k.invariant.2 c.key_at-key.ensures,
+    )
 
 pub returns : goal.returns
 returns c =

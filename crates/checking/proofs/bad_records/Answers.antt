@@ -1,6 +1,5 @@
 -- `bad_records` meets its contract: the tests come in the order of `bad_records`.
 -- Assumes nothing.
-use borrow.Author.Rules.{rules}
 use Rattle.image.specs.Check.{bad_records}
 use Rattle.checking.proofs.bad_records.Goals as goal
 

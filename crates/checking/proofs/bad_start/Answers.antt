@@ -1,6 +1,5 @@
 -- `bad_start` meets its contract: two fields of the record at its place.
 -- Assumes nothing.
-use borrow.Author.Rules.{rules}
 use Rattle.checking.specs.Code.{bad_start_of}
 use Rattle.checking.proofs.bad_start.Goals as goal
 

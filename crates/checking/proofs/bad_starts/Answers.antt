@@ -1,11 +1,7 @@
 -- `bad_starts` meets its contract: the loop searches the variable records. The invariant: none was found before.
 -- Assumes nothing.
-use mathlib.Core.Bool.{false}
 use mathlib.Core.Path.{◌≡◌}
-use Prim.Native.Nat.{◌≤◌, ◌-◌}
 use native.Mathlib.Omega.{arith}
-use borrow.Author.Rules.{rules}
-use Rattle.numbers.specs.Tests.{any_below}
 use Rattle.image.specs.Check.{bad_start}
 use Rattle.image.specs.Layout.{start_value, variable_place}
 use Rattle.cells.specs.Code.{literal_bits}

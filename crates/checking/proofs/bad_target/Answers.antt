@@ -2,7 +2,6 @@
 -- Assumes nothing.
 use native.Mathlib.Omega.{arith}
 use borrow.Author.Tests.{le-leb}
-use borrow.Author.Rules.{rules}
 use Rattle.checking.specs.Code.{bad_target_of}
 use Rattle.checking.proofs.bad_target.Goals as goal
 

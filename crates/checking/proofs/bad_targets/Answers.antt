@@ -1,11 +1,7 @@
 -- `bad_targets` meets its contract: the loop searches the label records. The invariant: none was found before.
 -- Assumes nothing.
-use mathlib.Core.Bool.{false}
 use mathlib.Core.Path.{◌≡◌}
-use Prim.Native.Nat.{◌≤◌, ◌-◌}
 use native.Mathlib.Omega.{arith}
-use borrow.Author.Rules.{rules}
-use Rattle.numbers.specs.Tests.{any_below}
 use Rattle.image.specs.Check.{bad_target}
 use Rattle.image.specs.Layout.{label_target, label_place}
 use Rattle.image.specs.Code.{target_of}

@@ -3,14 +3,8 @@
 use mathlib.Core.Bool.{false}
 use mathlib.Core.Path.{◌≡◌}
 use Prim.Native.Nat.{◌≤◌, ◌-◌}
-use native.Mathlib.Omega.{arith}
-use borrow.Author.Rules.{rules}
 use Rattle.numbers.specs.Tests.{any_below}
 use Rattle.image.specs.Check.{bad_target}
-use Rattle.image.specs.Layout.{label_target, label_place}
-use Rattle.image.specs.Code.{target_of}
-use Rattle.checking.specs.Code.{bad_target_of}
-use Rattle.image.proofs.Any.{none_yet, one_more, that_is, all_without}
 use Rattle.checking.proofs.bad_targets.Given as goal
 
 abbrev pub invariant-loop-k : goal.invariant-loop-k

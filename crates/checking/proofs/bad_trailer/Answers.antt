@@ -1,6 +1,5 @@
 -- `bad_trailer` meets its contract: the tests as they stand.
 -- Assumes nothing.
-use borrow.Author.Rules.{rules}
 use mathlib.Core.Bool.{or_assoc}
 use Rattle.program.specs.Variables.{most_cells, most_labels, most_variables}
 use Rattle.image.specs.Check.{bad_trailer}

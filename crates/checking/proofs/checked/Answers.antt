@@ -2,7 +2,6 @@
 -- Assumes nothing.
 use mathlib.Core.Bool.{false}
 use mathlib.Core.Path.{◌≡◌, sym, ◌∙◌}
-use borrow.Author.Rules.{rules}
 use Rattle.numbers.specs.Tests.{lowest}
 use Rattle.image.specs.Check.{bad_length, bad_edition, bad_trailer, bad_cells, image_faults, checked}
 use Rattle.checking.proofs.checked.Goals as goal

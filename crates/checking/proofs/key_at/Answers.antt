@@ -1,6 +1,5 @@
 -- `key_at` meets its contract: a field of the record at its place.
 -- Assumes nothing.
-use borrow.Author.Rules.{rules}
 use Rattle.checking.specs.Code.{key_of}
 use Rattle.checking.proofs.key_at.Goals as goal
 

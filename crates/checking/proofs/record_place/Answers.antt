@@ -1,7 +1,6 @@
 -- `record_place` meets its contract: by whether the record is a label's.
 -- Assumes nothing.
 use borrow.Author.Tests.{lt-ltb, le-ltb}
-use borrow.Author.Rules.{rules}
 use Rattle.checking.specs.Code.{record_place_of}
 use Rattle.checking.proofs.record_place.Goals as goal
 

@@ -2,7 +2,6 @@
 -- Assumes nothing.
 use mathlib.Core.Path.{refl, sym, ap, ◌∙◌}
 use native.Mathlib.Omega.{arith}
-use borrow.Author.Rules.{rules}
 use Rattle.comparing.specs.Calls.{compare_answered}
 use Rattle.comparing.proofs.Buffers.{good}
 use Rattle.comparing.proofs.Cases.{number_51, number_52, number_53, number_0, gives_refused, gives_accepted}

@@ -1,11 +1,9 @@
 -- `count` meets its contract: the invariant: what was counted and what is left make up all entries.
 -- Assumes nothing.
-use mathlib.Core.Path.{◌≡◌, ap}
-use Prim.Native.Nat.{◌+◌, ◌-◌, ◌≤◌}
+use mathlib.Core.Path.{ap}
 use native.Mathlib.Omega.{arith}
 use lib.ListN.{length}
-use Rattle.comparing.specs.Differences.{differing}
-use Rattle.comparing.proofs.Entries.{rest, rest_all, count_more, count_end}
+use Rattle.comparing.proofs.Entries.{rest_all, count_more, count_end}
 use Rattle.comparing.proofs.count.Goals as goal
 
 pub loop-k-init : goal.loop-k-init

@@ -1,11 +1,10 @@
 -- `count` meets its contract: the invariant: what was counted and what is left make up all entries.
 -- Assumes nothing.
-use mathlib.Core.Path.{◌≡◌, ap}
+use mathlib.Core.Path.{◌≡◌}
 use Prim.Native.Nat.{◌+◌, ◌-◌, ◌≤◌}
-use native.Mathlib.Omega.{arith}
 use lib.ListN.{length}
 use Rattle.comparing.specs.Differences.{differing}
-use Rattle.comparing.proofs.Entries.{rest, rest_all, count_more, count_end}
+use Rattle.comparing.proofs.Entries.{rest}
 use Rattle.comparing.proofs.count.Given as goal
 
 abbrev pub invariant-loop-k : goal.invariant-loop-k

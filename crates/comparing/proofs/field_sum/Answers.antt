@@ -1,6 +1,5 @@
 -- `field_sum` meets its contract: four fields, each of which adds no more than it weighs; values are the same where their bits are.
 -- Assumes nothing.
-use native.Mathlib.Omega.{arith}
 use mir.Val.{SFits}
 use mir.Syntax.{w32}
 use Rattle.numbers.proofs.Kit.{fit32, same_bits}

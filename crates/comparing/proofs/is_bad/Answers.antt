@@ -1,11 +1,8 @@
 -- `is_bad` meets its contract: the invariant: no record passed is bad.
 -- Assumes nothing.
-use mathlib.Core.Path.{◌≡◌, sym, ◌∙◌}
-use mathlib.Core.Bool.{false}
-use Prim.Native.Nat.{ℕ, ◌-◌, ◌≤◌, ◌<◌}
+use mathlib.Core.Path.{sym, ◌∙◌}
 use native.Mathlib.Omega.{arith}
 use borrow.Author.Count.{below_more}
-use Rattle.comparing.specs.Differences.{bad_record}
 use Rattle.comparing.proofs.Buffers.{bad_count, bad_length_lem, bad_record_lem, no_bad}
 use Rattle.comparing.proofs.is_bad.Goals as goal
 

@@ -1,6 +1,5 @@
 -- `is_bad_record` meets its contract: by the zeros of the record.
 -- Assumes nothing.
-use native.Mathlib.Omega.{arith}
 use Rattle.comparing.specs.Differences.{bad_record}
 use Rattle.comparing.proofs.is_bad_record.Goals as goal
 

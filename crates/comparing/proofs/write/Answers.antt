@@ -1,12 +1,9 @@
 -- `write` meets its contract: the invariant: what is left, over what stands there, gives the whole list.
 -- Assumes nothing.
-use mathlib.Core.Path.{◌≡◌, refl, ap, ◌∙◌}
-use Prim.Native.Nat.{◌*◌, ◌-◌, ◌≤◌}
+use mathlib.Core.Path.{refl, ap, ◌∙◌}
 use native.Mathlib.Omega.{arith}
-use lib.ListN.{length}
 use lib.Seq.{sets}
-use Rattle.comparing.specs.Differences.{differences}
-use Rattle.comparing.proofs.Entries.{left, left_all, write_more, write_end, write_next}
+use Rattle.comparing.proofs.Entries.{left_all, write_more, write_end, write_next}
 use Rattle.comparing.proofs.write.Goals as goal
 
 pub loop-k-init : goal.loop-k-init

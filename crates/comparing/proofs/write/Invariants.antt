@@ -1,12 +1,11 @@
 -- `write` meets its contract: the invariant: what is left, over what stands there, gives the whole list.
 -- Assumes nothing.
-use mathlib.Core.Path.{◌≡◌, refl, ap, ◌∙◌}
+use mathlib.Core.Path.{◌≡◌}
 use Prim.Native.Nat.{◌*◌, ◌-◌, ◌≤◌}
-use native.Mathlib.Omega.{arith}
 use lib.ListN.{length}
 use lib.Seq.{sets}
 use Rattle.comparing.specs.Differences.{differences}
-use Rattle.comparing.proofs.Entries.{left, left_all, write_more, write_end, write_next}
+use Rattle.comparing.proofs.Entries.{left}
 use Rattle.comparing.proofs.write.Given as goal
 
 abbrev pub invariant-loop-k : goal.invariant-loop-k

@@ -1,11 +1,10 @@
 -- `fill` meets its contract. The loop's invariant: the slots that are left give the whole; each took at most two tokens.
 -- Assumes nothing.
 use native.Mathlib.Omega.{arith}
-use Prim.Native.Nat.{◌≤◌, ◌<◌, ◌*◌, ◌-◌}
-use lib.ListN.{length, drop}
-use mathlib.Core.Path.{◌≡◌, refl, sym, ◌∙◌}
+use Prim.Native.Nat.{◌≤◌, ◌<◌}
+use lib.ListN.{length}
+use mathlib.Core.Path.{refl, sym, ◌∙◌}
 use Rattle.text.specs.Code.{token_at}
-use Rattle.forms.specs.Code.{no_match, slots_of, fill_by}
 use Rattle.forms.proofs.Matching.{fill_more, fill_over, fill_end, slot_place, slots_length}
 use Rattle.forms.proofs.fill.Goals as goal
 

@@ -1,6 +1,5 @@
 -- `slots` meets its contract: the table is that of the definition.
 -- Assumes nothing.
-use native.Mathlib.Omega.{arith}
 use mathlib.Core.Path.{refl}
 use Rattle.forms.specs.Code.{slot_table, slots_of}
 use Rattle.forms.proofs.slots.Goals as goal

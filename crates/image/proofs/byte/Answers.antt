@@ -1,7 +1,6 @@
 -- `byte` meets its contract: a field of one byte is that byte, and past the end stands 0.
 -- Assumes nothing.
 use mathlib.Core.Path.{sym, ◌∙◌}
-use native.Mathlib.Omega.{arith}
 use lib.ListN.{get_or-eq_default}
 use Rattle.numbers.proofs.Laws.{field_one}
 use Rattle.image.proofs.byte.Goals as goal

@@ -1,6 +1,5 @@
 -- `cell_at` meets its contract: field by field.
 -- Assumes nothing.
-use native.Mathlib.Omega.{arith}
 use Rattle.image.specs.Layout.{cell_at}
 use Rattle.image.proofs.cell_at.Goals as goal
 

@@ -1,7 +1,6 @@
 -- `image_length` meets its contract: the sum as it stands.
 -- Assumes nothing.
 use mathlib.Core.Path.{refl}
-use native.Mathlib.Omega.{arith}
 use Rattle.image.specs.Layout.{image_length}
 use Rattle.image.proofs.image_length.Goals as goal
 

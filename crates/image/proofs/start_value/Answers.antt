@@ -1,7 +1,6 @@
 -- `start_value` meets its contract: a field of the record at its place.
 -- Assumes nothing.
 use mathlib.Core.Path.{ap, ◌∙◌}
-use native.Mathlib.Omega.{arith}
 use Rattle.numbers.specs.Bits.{signed32}
 use Rattle.numbers.proofs.Kit.{fit32, back32}
 use Rattle.image.specs.Layout.{start_value, variable_place}

@@ -1,6 +1,5 @@
 -- `target_at` meets its contract: a field of the record at its place.
 -- Assumes nothing.
-use native.Mathlib.Omega.{arith}
 use Rattle.image.specs.Code.{target_of}
 use Rattle.image.proofs.target_at.Goals as goal
 

@@ -1,11 +1,8 @@
 -- `arrange` meets its contract. The loop's invariant: entering the lines that are left gives the whole.
 -- Assumes nothing.
-use mathlib.Core.Path.{sym}
 use Prim.Native.Nat.{◌+◌, ◌-◌}
-use native.Mathlib.Omega.{arith}
-use borrow.Author.Rules.{rules}
 use lib.ListN.{length}
-use Rattle.names.proofs.Arranging.{Arranging, arranging, arrange_more, arranged_all}
+use Rattle.names.proofs.Arranging.{Arranging}
 use Rattle.names.proofs.arrange.Given as goal
 
 abbrev pub invariant-loop-at : goal.invariant-loop-at

@@ -1,6 +1,5 @@
 -- `counted` meets its contract.
 -- Assumes nothing.
-use native.Mathlib.Omega.{arith}
 use Rattle.names.specs.Code.{counted}
 use Rattle.names.proofs.counted.Goals as goal
 

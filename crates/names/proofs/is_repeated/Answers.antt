@@ -1,6 +1,5 @@
 -- `is_repeated` meets its contract.
 -- Assumes nothing.
-use native.Mathlib.Omega.{arith}
 use Rattle.names.specs.Code.{repeated_key}
 use Rattle.names.proofs.is_repeated.Goals as goal
 

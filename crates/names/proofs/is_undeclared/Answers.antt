@@ -1,7 +1,6 @@
 -- `is_undeclared` meets its contract.
 -- Assumes nothing.
 use Rattle.names.specs.Code.{unknown_cell}
-use borrow.Author.Rules.{rules}
 use Rattle.names.proofs.is_undeclared.Goals as goal
 
 pub returns : goal.returns

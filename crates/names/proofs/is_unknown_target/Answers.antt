@@ -1,6 +1,5 @@
 -- `is_unknown_target` meets its contract.
 -- Assumes nothing.
-use native.Mathlib.Omega.{arith}
 use Rattle.names.proofs.Asking.{no_target_lem, target_sought}
 use Rattle.names.proofs.is_unknown_target.Goals as goal
 

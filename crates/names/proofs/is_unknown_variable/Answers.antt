@@ -1,6 +1,5 @@
 -- `is_unknown_variable` meets its contract.
 -- Assumes nothing.
-use native.Mathlib.Omega.{arith}
 use Rattle.names.proofs.Asking.{variable_declared, variable_other}
 use Rattle.names.proofs.is_unknown_variable.Goals as goal
 

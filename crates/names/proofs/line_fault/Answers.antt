@@ -4,7 +4,6 @@ use mathlib.Core.Path.{refl, sym, ◌∙◌}
 use mathlib.Core.Bool.{true, false}
 use Rattle.numbers.specs.Tests.{lowest}
 use Rattle.names.proofs.Asking.{fault_own, fault_lowest}
-use borrow.Author.Rules.{rules}
 use Rattle.names.proofs.line_fault.Goals as goal
 
 pub returns-then-reading-ne-NO_FAULT : goal.returns-then-reading-ne-NO_FAULT

@@ -1,11 +1,9 @@
 -- `line_faults` meets its contract. The loop's invariant: the faults of the lines that are left, over what the buffer has, give the whole.
 -- Assumes nothing.
-use Prim.Native.Nat.{◌+◌, ◌-◌}
-use native.Mathlib.Omega.{arith}
 use lib.ListN.{length}
 use mathlib.Core.Path.{sym, ap, ◌∙◌}
 use Rattle.rows.proofs.Seeking.{long}
-use Rattle.names.proofs.Surveying.{Judging, judging, judge_more, judged_all}
+use Rattle.names.proofs.Surveying.{judging, judge_more, judged_all}
 use Rattle.names.proofs.line_faults.Goals as goal
 
 pub loop-passed-init : goal.loop-passed-init
@@ -19,7 +17,7 @@ pass_line-passed-requires c = record { reached = (c.loop-passed-test.true, c.loo
 
 pub loop-passed-preserved : goal.loop-passed-preserved
 loop-passed-preserved c =
-    judge_more c.loop-passed.invariant c.pass_line-passed.ensures c.struct_known-in-loop-passed-1.given.0.fits c.write.ensures
+    judge_more c.loop-passed.invariant c.pass_line-passed.ensures (search rules) c.write.ensures
 
 pub shape_of-faults : goal.shape_of-faults
 shape_of-faults c = c.loop-passed.invariant.size

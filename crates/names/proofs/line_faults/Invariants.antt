@@ -1,11 +1,8 @@
 -- `line_faults` meets its contract. The loop's invariant: the faults of the lines that are left, over what the buffer has, give the whole.
 -- Assumes nothing.
 use Prim.Native.Nat.{◌+◌, ◌-◌}
-use native.Mathlib.Omega.{arith}
 use lib.ListN.{length}
-use mathlib.Core.Path.{sym, ap, ◌∙◌}
-use Rattle.rows.proofs.Seeking.{long}
-use Rattle.names.proofs.Surveying.{Judging, judging, judge_more, judged_all}
+use Rattle.names.proofs.Surveying.{Judging}
 use Rattle.names.proofs.line_faults.Given as goal
 
 abbrev pub invariant-loop-passed : goal.invariant-loop-passed

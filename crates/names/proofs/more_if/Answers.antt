@@ -1,6 +1,5 @@
 -- `more_if` meets its contract.
 -- Assumes nothing.
-use native.Mathlib.Omega.{arith}
 use Rattle.rows.specs.Rows.{plus}
 use native.Mathlib.Numerals.{add-one}
 use Rattle.names.proofs.more_if.Goals as goal

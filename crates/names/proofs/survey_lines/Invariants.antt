@@ -1,10 +1,8 @@
 -- `survey_lines` meets its contract. The loop's invariant: what is known at the start of a line.
 -- Assumes nothing.
 use Prim.Native.Nat.{◌+◌, ◌-◌}
-use native.Mathlib.Omega.{arith}
-use borrow.Author.Rules.{rules}
 use lib.ListN.{length}
-use Rattle.names.proofs.Surveying.{Surveying, surveying, survey_more, fault_here, fault_none}
+use Rattle.names.proofs.Surveying.{Surveying}
 use Rattle.names.proofs.survey_lines.Given as goal
 
 abbrev pub invariant-loop-passed : goal.invariant-loop-passed

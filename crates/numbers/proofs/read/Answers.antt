@@ -12,7 +12,7 @@ small : (c : goal.After-byte-b) → c.loop-i.n < 72057594037927936
 small c =
     let a = c.args in
     let l = c.loop-i in
-    rw l.invariant.1 (field_seven (a.width - l.i) (a.from + l.i) a.s.now (omega arith) (λ k. (c.shared_slice_known-1.given k).fits))
+    rw l.invariant.1 (field_seven (a.width - l.i) (a.from + l.i) a.s.now (omega arith) (λ k. (c.type_inv.s k).fits))
 
 pub loop-i-init : goal.loop-i-init
 loop-i-init c = (omega arith, simp (sub_self, field_none))

@@ -1,7 +1,6 @@
 -- `line_of` is safe and ends: each line is behind the one before.
 -- Assumes nothing.
 use Prim.Native.Nat.{◌+◌, ◌-◌, ◌≤◌}
-use native.Mathlib.Omega.{arith}
 use lib.ListN.{length}
 use Rattle.parts.proofs.line_of.Given as goal
 

@@ -1,7 +1,6 @@
 -- `same` is safe and ends: each turn leaves fewer bytes.
 -- Assumes nothing.
 use Prim.Native.Nat.{◌-◌}
-use native.Mathlib.Omega.{arith}
 use lib.ListN.{length}
 use Rattle.parts.proofs.same.Given as goal
 

@@ -1,7 +1,6 @@
 -- `used` is safe and ends: each turn leaves fewer bytes.
 -- Assumes nothing.
 use Prim.Native.Nat.{◌-◌}
-use native.Mathlib.Omega.{arith}
 use lib.ListN.{length}
 use Rattle.parts.proofs.used.Given as goal
 

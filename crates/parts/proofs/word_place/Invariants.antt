@@ -1,7 +1,6 @@
 -- `word_place` is safe and ends.
 -- Assumes nothing.
 use Prim.Native.Nat.{◌-◌}
-use native.Mathlib.Omega.{arith}
 use Rattle.parts.proofs.word_place.Given as goal
 
 abbrev pub invariant-loop : goal.invariant-loop

@@ -1,9 +1,8 @@
 -- `give` meets its contract. The loop's invariant: what is left to copy, over what stands there, gives the whole.
 -- Assumes nothing.
 use mathlib.Core.Path.{refl}
-use Prim.Native.Nat.{◌-◌}
 use native.Mathlib.Omega.{arith}
-use Rattle.printing.proofs.Pages.{Copying, copying, copied, copying_more}
+use Rattle.printing.proofs.Pages.{copying, copied, copying_more}
 use Rattle.printing.proofs.Room.{too_short_lem, in_room}
 use Rattle.printing.proofs.give.Goals as goal
 

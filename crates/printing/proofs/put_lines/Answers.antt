@@ -1,11 +1,8 @@
 -- `put_lines` meets its contract. The loop's invariant: the lines that are left, put from here on, give those of all labels and cells.
 -- Assumes nothing.
 use mathlib.Core.Path.{◌∙◌}
-use Prim.Native.Nat.{◌+◌, ◌-◌}
 use native.Mathlib.Omega.{arith}
-use Rattle.image.specs.Layout.{cell_count}
-use Rattle.printing.specs.Code.{cell_texts}
-use Rattle.printing.proofs.Pages.{Putting, length_put}
+use Rattle.printing.proofs.Pages.{length_put}
 use Rattle.printing.proofs.Pieces.{cells_first, label_there, cell_here, label_put, cell_put, lines_put}
 use Rattle.printing.proofs.put_lines.Goals as goal
 

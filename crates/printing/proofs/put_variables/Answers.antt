@@ -1,9 +1,7 @@
 -- `put_variables` meets its contract. The loop's invariant: the lines that are left, put from here on, give the whole.
 -- Assumes nothing.
-use Prim.Native.Nat.{◌-◌}
 use native.Mathlib.Omega.{arith}
-use Rattle.printing.specs.Code.{variable_texts}
-use Rattle.printing.proofs.Pages.{Putting, putting}
+use Rattle.printing.proofs.Pages.{putting}
 use Rattle.printing.proofs.Pieces.{variable_next, variables_put}
 use Rattle.printing.proofs.put_variables.Goals as goal
 

@@ -1,7 +1,6 @@
 -- `variable_key` meets its contract: the name of the table, or the field of the record at its place.
 -- Assumes nothing.
 use mathlib.Core.Path.{◌∙◌}
-use native.Mathlib.Omega.{arith}
 use Rattle.printing.proofs.Keys.{paper_key, record_key}
 use Rattle.printing.proofs.variable_key.Goals as goal
 

@@ -1,6 +1,5 @@
 -- `acts` meets its contract.
 -- Assumes nothing.
-use native.Mathlib.Omega.{arith}
 use Rattle.reading.specs.Code.{acts_by}
 use Rattle.reading.proofs.acts.Goals as goal
 

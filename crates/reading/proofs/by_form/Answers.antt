@@ -1,7 +1,6 @@
 -- `by_form` meets its contract.
 -- Assumes nothing.
 use mathlib.Core.Path.{◌∙◌}
-use native.Mathlib.Omega.{arith}
 use Rattle.text.specs.Code.{token_at}
 use Rattle.forms.proofs.Choosing.{form_below}
 use Rattle.reading.proofs.Parts.{form_fits, form_not}

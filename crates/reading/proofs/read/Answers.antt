@@ -1,7 +1,6 @@
 -- `read` meets its contract.
 -- Assumes nothing.
 use mathlib.Core.Path.{sym, ◌∙◌}
-use native.Mathlib.Omega.{arith}
 use Rattle.forms.specs.Code.{parts_of}
 use Rattle.reading.proofs.Parts.{read_big, read_acts, read_declares}
 use Rattle.reading.proofs.read.Goals as goal

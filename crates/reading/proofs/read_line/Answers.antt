@@ -1,7 +1,6 @@
 -- `read_line` meets its contract.
 -- Assumes nothing.
 use mathlib.Core.Path.{sym, ◌∙◌}
-use borrow.Author.Tests.{not-true, not-false}
 use lib.Seq.{length-take-le}
 use Rattle.reading.proofs.Readings.{line_long, line_bad, line_says, code_inside, line_reads}
 use Rattle.reading.proofs.read_line.Goals as goal

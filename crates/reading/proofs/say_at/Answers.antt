@@ -1,7 +1,6 @@
 -- `say_at` meets its contract: the table is that of the definition.
 -- Assumes nothing.
 use mathlib.Core.Path.{refl}
-use native.Mathlib.Omega.{arith}
 use Rattle.reading.specs.Code.{say_table, say_of}
 use Rattle.reading.proofs.say_at.Goals as goal
 

@@ -1,7 +1,6 @@
 -- `enter` meets its contract.
 -- Assumes nothing.
 use mathlib.Core.List.{[]}
-use borrow.Author.Rules.{rules}
 use Rattle.rows.proofs.Seeking.{enter_past, enter_there, enter_new}
 use Rattle.rows.proofs.enter.Goals as goal
 

@@ -1,7 +1,6 @@
 -- `look_up` meets its contract.
 -- Assumes nothing.
 use mathlib.Core.List.{[]}
-use borrow.Author.Rules.{rules}
 use Rattle.rows.proofs.Seeking.{look_past, look_at}
 use Rattle.rows.proofs.look_up.Goals as goal
 

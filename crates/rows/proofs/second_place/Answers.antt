@@ -1,6 +1,5 @@
 -- `second_place` meets its contract.
 -- Assumes nothing.
-use borrow.Author.Rules.{rules}
 use borrow.Author.Tests.{le-leb, lt-leb}
 use Rattle.rows.specs.Rows.{second_place}
 use Rattle.rows.proofs.Order.{second_least, letter_least}

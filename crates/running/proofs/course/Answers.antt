@@ -1,7 +1,6 @@
 -- `course` meets its contract: it goes on from the start.
 -- Assumes nothing.
 use native.Mathlib.Omega.{arith}
-use borrow.Author.Rules.{rules}
 use Rattle.running.proofs.Courses.{from_start, inputs_first}
 use Rattle.running.proofs.course.Goals as goal
 

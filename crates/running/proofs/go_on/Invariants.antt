@@ -1,13 +1,8 @@
 -- `go_on` meets its contract. The invariant: what is left to run from here, behind the records in the buffer, gives the whole.
 -- Assumes nothing.
-use mathlib.Core.Path.{◌∙◌}
 use Prim.Native.Nat.{◌-◌}
-use native.Mathlib.Omega.{arith}
-use borrow.Author.Rules.{rules}
-use Rattle.running.specs.Code.{SteppedBy, course_from}
-use Rattle.running.proofs.Scripts.{few_events}
-use Rattle.running.proofs.Turns.{stepped_by}
-use Rattle.running.proofs.Courses.{Underway, underway, past_last, budget_used, stopped, goes_on}
+use Rattle.running.specs.Code.{course_from}
+use Rattle.running.proofs.Courses.{Underway}
 use Rattle.running.proofs.go_on.Given as goal
 
 abbrev pub invariant-loop-machine : goal.invariant-loop-machine

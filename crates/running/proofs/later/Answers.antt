@@ -1,12 +1,9 @@
 -- `later` meets its contract. The invariant: the events passed are of the turn.
 -- Assumes nothing.
-use mathlib.Core.Path.{◌≡◌, sym, ap, ◌∙◌}
-use Prim.Native.Nat.{ℕ, ◌-◌, ◌≤◌, ◌<◌}
+use mathlib.Core.Path.{sym, ap, ◌∙◌}
 use native.Mathlib.Omega.{arith}
 use borrow.Author.Count.{below_more}
-use borrow.Author.Rules.{rules}
 use Rattle.events.specs.declared.Event.{Event}
-use Rattle.events.specs.Events.{event_at}
 use Rattle.running.proofs.Scripts.{due_before, due_all}
 use Rattle.running.proofs.later.Goals as goal
 

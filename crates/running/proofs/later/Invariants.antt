@@ -1,13 +1,8 @@
 -- `later` meets its contract. The invariant: the events passed are of the turn.
 -- Assumes nothing.
-use mathlib.Core.Path.{◌≡◌, sym, ap, ◌∙◌}
+use mathlib.Core.Path.{◌≡◌}
 use Prim.Native.Nat.{ℕ, ◌-◌, ◌≤◌, ◌<◌}
-use native.Mathlib.Omega.{arith}
-use borrow.Author.Count.{below_more}
-use borrow.Author.Rules.{rules}
-use Rattle.events.specs.declared.Event.{Event}
 use Rattle.events.specs.Events.{event_at}
-use Rattle.running.proofs.Scripts.{due_before, due_all}
 use Rattle.running.proofs.later.Given as goal
 
 abbrev pub invariant-loop-k : goal.invariant-loop-k

@@ -1,13 +1,8 @@
 -- `started` meets its contract. The invariant: the machine has the start values passed.
 -- Assumes nothing.
-use mathlib.Core.Path.{◌≡◌, ◌∙◌}
-use Prim.Native.Nat.{◌-◌, ◌≤◌}
+use mathlib.Core.Path.{◌∙◌}
 use native.Mathlib.Omega.{arith}
-use borrow.Author.Rules.{rules}
-use lib.ListN.{take}
 use Rattle.numbers.proofs.Kit.{back32, fit32}
-use Rattle.image.specs.Layout.{start_values}
-use Rattle.machine.specs.Turn.{start_machine}
 use Rattle.running.proofs.Scripts.{started_more, started_all}
 use Rattle.running.proofs.started.Goals as goal
 

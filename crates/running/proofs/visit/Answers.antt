@@ -1,13 +1,11 @@
 -- `visit` meets its contract. The invariant: the places still to come, behind those in the buffer, give the whole.
 -- Assumes nothing.
 use mathlib.Core.Path.{◌∙◌}
-use Prim.Native.Nat.{◌-◌}
 use native.Mathlib.Omega.{arith}
-use borrow.Author.Rules.{rules}
 use Rattle.running.specs.Code.{SteppedBy}
 use Rattle.running.proofs.Scripts.{few_events}
 use Rattle.running.proofs.Turns.{stepped_by}
-use Rattle.running.proofs.Visits.{Passing, passing, visited_past, visited_spent, visited_stopped, passes_on}
+use Rattle.running.proofs.Visits.{passing, visited_past, visited_spent, visited_stopped, passes_on}
 use Rattle.running.proofs.visit.Goals as goal
 
 pub loop-taken-init : goal.loop-taken-init

@@ -1,7 +1,6 @@
 -- `digits` is safe and ends: each turn leaves fewer bytes.
 -- Assumes nothing.
 use Prim.Native.Nat.{◌-◌}
-use native.Mathlib.Omega.{arith}
 use lib.ListN.{length}
 use Rattle.scripts.proofs.digits.Given as goal
 

@@ -1,7 +1,6 @@
 -- `fault_on` is safe and ends.
 -- Assumes nothing.
 use Prim.Native.Nat.{◌-◌}
-use native.Mathlib.Omega.{arith}
 use Rattle.scripts.proofs.fault_on.Given as goal
 
 abbrev pub invariant-loop-number : goal.invariant-loop-number

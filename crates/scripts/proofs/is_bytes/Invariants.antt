@@ -1,7 +1,6 @@
 -- `is_bytes` is safe and ends: each turn leaves fewer bytes.
 -- Assumes nothing.
 use Prim.Native.Nat.{◌-◌}
-use native.Mathlib.Omega.{arith}
 use lib.ListN.{length}
 use Rattle.scripts.proofs.is_bytes.Given as goal
 

@@ -1,7 +1,6 @@
 -- `place_of_fault` is safe and ends.
 -- Assumes nothing.
 use Prim.Native.Nat.{◌-◌}
-use native.Mathlib.Omega.{arith}
 use Rattle.scripts.proofs.place_of_fault.Given as goal
 
 abbrev pub invariant-loop-number : goal.invariant-loop-number

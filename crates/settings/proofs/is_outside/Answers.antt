@@ -2,7 +2,6 @@
 -- Assumes nothing.
 use mathlib.Core.Path.{sym, ap, ◌∙◌}
 use mathlib.Core.Bool.{not}
-use borrow.Author.Tests.{not-true, not-false}
 use Rattle.numbers.proofs.Kit.{back32}
 use Rattle.program.specs.Variables.{in_range, range_of}
 use Rattle.settings.specs.Sets.{own_range}

@@ -1,7 +1,7 @@
 -- `is_within` meets its contract: by the range of the variable.
 -- Assumes nothing.
 use mathlib.Core.Path.{ap₂, ◌∙◌}
-use Rattle.numbers.proofs.Kit.{back32, back64, wide}
+use Rattle.numbers.proofs.Kit.{back32, back64}
 use Rattle.program.specs.Variables.{range_of}
 use Rattle.program.proofs.Results.{tested}
 use Rattle.settings.proofs.is_within.Goals as goal

@@ -5,9 +5,8 @@ use mathlib.Core.Bool.{false, ◌&&◌, ◌||◌}
 use Prim.Native.Nat.{ℕ, ◌≤◌}
 use native.Mathlib.Omega.{arith}
 use borrow.Author.Rules.{rules}
-use borrow.Author.Tests.{ltb-false, not-true, not-false}
+use borrow.Author.Tests.{ltb-false}
 use lib.Dec.{leb, ltb}
-use lib.ListN.{length}
 use Rattle.numbers.proofs.Kit.{back32}
 use Rattle.numbers.proofs.Truth.{neither}
 use Rattle.settings.specs.Calls.{shown}
@@ -41,7 +40,7 @@ returns-then-not-are_within c =
     let last = c.args.last in
     let known = ap (λ (k : ℕ). leb 1 k && leb k last) (sym c.edition-edition.ensures) in
     let tested =
-    within_tested c.are_within.ensures (back32 (search (rules, c.struct_told-1.given))) (back32 (search (rules, c.struct_told-2-1.given))) c.finished-settings.ensures in
+    within_tested c.are_within.ensures (back32 (search rules)) (back32 (search rules)) c.finished-settings.ensures in
     gives_refused _ _ _
     (number_44 _ _ _ c.if-s.false (known ∙ c.if-not-edition-last.false) (sym c.is_laid_out.ensures ∙ c.if-not-is_laid_out.false)
     (tested ∙ c.if-not-are_within.true))
@@ -52,7 +51,7 @@ returns c =
     let last = c.args.last in
     let known = ap (λ (k : ℕ). leb 1 k && leb k last) (sym c.edition-edition.ensures) in
     let tested =
-    within_tested c.are_within.ensures (back32 (search (rules, c.struct_told-1.given))) (back32 (search (rules, c.struct_told-2-1.given))) c.finished-settings.ensures in
+    within_tested c.are_within.ensures (back32 (search rules)) (back32 (search rules)) c.finished-settings.ensures in
     gives_accepted _ _ _
     (number_0 _ _ _ c.if-s.false (known ∙ c.if-not-edition-last.false) (sym c.is_laid_out.ensures ∙ c.if-not-is_laid_out.false)
     (tested ∙ c.if-not-are_within.false))

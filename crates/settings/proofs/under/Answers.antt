@@ -1,17 +1,13 @@
 -- `under` meets its contract: the invariant: the pairs that are left give what all of them give.
 -- Assumes nothing.
-use mathlib.Core.Path.{◌≡◌, sym, ap, ◌∙◌}
+use mathlib.Core.Path.{sym, ap, ◌∙◌}
 use mathlib.Core.List.{List}
-use Prim.Native.Nat.{◌-◌, ◌/◌, ◌≤◌}
 use native.Mathlib.Omega.{arith}
 use borrow.Author.Rules.{rules}
-use lib.IntN.{ℤ}
-use lib.ListN.{length}
 use Rattle.numbers.proofs.Kit.{back32}
-use Rattle.settings.specs.Layout.{pairs_of}
 use Rattle.settings.specs.Sets.{under}
 use Rattle.settings.specs.declared.Pair.{Pair}
-use Rattle.settings.proofs.Loops.{rest, rest_all, under_here, under_next, under_end}
+use Rattle.settings.proofs.Loops.{rest_all, under_here, under_next, under_end}
 use Rattle.settings.proofs.under.Goals as goal
 
 pub loop-i-init : goal.loop-i-init
@@ -21,7 +17,7 @@ loop-i-init c =
 pub returns-then-is_of : goal.returns-then-is_of
 returns-then-is_of c =
     let l = c.loop-i in
-    back32 (search (rules, c.struct_told-1.given))
+    back32 (search rules)
     ∙ sym (under_here _ _ l.i _ _ c.loop-i-test.true c.pair_at-p.ensures c.is_of.ensures c.if-is_of.true)
     ∙ l.invariant.0 _
 

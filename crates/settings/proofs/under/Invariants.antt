@@ -1,17 +1,12 @@
 -- `under` meets its contract: the invariant: the pairs that are left give what all of them give.
 -- Assumes nothing.
-use mathlib.Core.Path.{◌≡◌, sym, ap, ◌∙◌}
-use mathlib.Core.List.{List}
+use mathlib.Core.Path.{◌≡◌}
 use Prim.Native.Nat.{◌-◌, ◌/◌, ◌≤◌}
-use native.Mathlib.Omega.{arith}
-use borrow.Author.Rules.{rules}
 use lib.IntN.{ℤ}
 use lib.ListN.{length}
-use Rattle.numbers.proofs.Kit.{back32}
 use Rattle.settings.specs.Layout.{pairs_of}
 use Rattle.settings.specs.Sets.{under}
-use Rattle.settings.specs.declared.Pair.{Pair}
-use Rattle.settings.proofs.Loops.{rest, rest_all, under_here, under_next, under_end}
+use Rattle.settings.proofs.Loops.{rest}
 use Rattle.settings.proofs.under.Given as goal
 
 abbrev pub invariant-loop-i : goal.invariant-loop-i

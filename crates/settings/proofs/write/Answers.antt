@@ -2,7 +2,6 @@
 -- Assumes nothing.
 use mathlib.Core.Path.{refl, sym, ap, ◌∙◌}
 use native.Mathlib.Omega.{arith}
-use borrow.Author.Rules.{rules}
 use Rattle.settings.specs.Calls.{written}
 use Rattle.settings.proofs.Writing.{number_44, number_45, number_0, gives_refused, gives_accepted}
 use Rattle.settings.proofs.Stored.{file_stored}

@@ -2,7 +2,6 @@
 -- Assumes nothing.
 use mathlib.Core.Path.{◌∙◌}
 use native.Mathlib.Omega.{arith}
-use borrow.Author.Rules.{rules}
 use mir.Val.{SFits}
 use mir.Syntax.{w32}
 use Rattle.numbers.proofs.Kit.{fit32, back32}

@@ -1,7 +1,6 @@
 -- `shown` is safe and ends.
 -- Assumes nothing.
 use Prim.Native.Nat.{◌-◌}
-use borrow.Author.Rules.{rules}
 use Rattle.telling.proofs.shown.Given as goal
 
 abbrev pub invariant-loop-i : goal.invariant-loop-i

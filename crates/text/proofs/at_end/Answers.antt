@@ -1,7 +1,6 @@
 -- `at_end` meets its contract.
 -- Assumes nothing.
 use mathlib.Core.Path.{refl}
-use native.Mathlib.Omega.{arith}
 use Rattle.text.proofs.Lines.{at_end_lem, not_at_end}
 use Rattle.text.proofs.at_end.Goals as goal
 

@@ -1,6 +1,5 @@
 -- `byte` meets its contract.
 -- Assumes nothing.
-use native.Mathlib.Omega.{arith}
 use lib.ListN.{get_or-eq_default}
 use Rattle.text.proofs.byte.Goals as goal
 

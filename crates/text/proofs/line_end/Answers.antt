@@ -1,11 +1,8 @@
 -- `line_end` meets its contract. The loop's invariant: what is left of the line from here gives the whole.
 -- Assumes nothing.
-use Prim.Native.Nat.{◌≤◌, ◌+◌, ◌-◌}
-use lib.ListN.{length, drop}
-use mathlib.Core.Path.{◌≡◌, sym, ◌∙◌}
+use mathlib.Core.Path.{sym, ◌∙◌}
 use native.Mathlib.Numerals.{add-one}
 use native.Mathlib.Omega.{arith}
-use Rattle.text.specs.Code.{line_length}
 use Rattle.text.proofs.Lines.{length_more, length_stop, length_end}
 use Rattle.text.proofs.line_end.Goals as goal
 

@@ -1,6 +1,5 @@
 -- `emit_line` meets its contract.
 -- Assumes nothing.
-use native.Mathlib.Omega.{arith}
 use mir.Val.{to_z, of_z}
 use mir.Syntax.{w32}
 use mathlib.Core.Path.{refl}
@@ -18,7 +17,7 @@ returns-then-kind-eq-LABEL c =
 
 pub returns-then-kind-eq-DECLARED : goal.returns-then-kind-eq-DECLARED
 returns-then-kind-eq-DECLARED c =
-    emit_variable c.args.rows.now c.args.reading c.args.places c.args.buffer.now (to_z w32 (of_z w32 c.args.reading.start)) c.if-kind-eq-DECLARED.true (search (rules, c.struct_told-1.given)) c.write_variable.ensures
+    emit_variable c.args.rows.now c.args.reading c.args.places c.args.buffer.now (to_z w32 (of_z w32 c.args.reading.start)) c.if-kind-eq-DECLARED.true (search rules) c.write_variable.ensures
 
 pub returns : goal.returns
 returns c =

@@ -1,11 +1,9 @@
 -- `emit_lines` meets its contract. The loop's invariant: what is left to write gives the whole.
 -- Assumes nothing.
-use Prim.Native.Nat.{◌+◌, ◌-◌}
-use lib.ListN.{length}
 use native.Mathlib.Omega.{arith}
 use Rattle.names.proofs.Asking.{keyed_by}
 use Rattle.translation.proofs.Known.{low}
-use Rattle.translation.proofs.Writing.{Writing, writing_first, writing_more, writing_done}
+use Rattle.translation.proofs.Writing.{writing_first, writing_more, writing_done}
 use Rattle.translation.proofs.emit_lines.Goals as goal
 
 pub loop-at-init : goal.loop-at-init

@@ -2,10 +2,7 @@
 -- Assumes nothing.
 use Prim.Native.Nat.{◌+◌, ◌-◌}
 use lib.ListN.{length}
-use native.Mathlib.Omega.{arith}
-use Rattle.names.proofs.Asking.{keyed_by}
-use Rattle.translation.proofs.Known.{low}
-use Rattle.translation.proofs.Writing.{Writing, writing_first, writing_more, writing_done}
+use Rattle.translation.proofs.Writing.{Writing}
 use Rattle.translation.proofs.emit_lines.Given as goal
 
 abbrev pub invariant-loop-at : goal.invariant-loop-at

@@ -1,9 +1,6 @@
 -- `line_of` meets its contract. The loop's invariant: seeking from here on, with these cells to pass, finds what seeking in the whole text does.
 -- Assumes nothing.
-use Prim.Native.Nat.{◌+◌, ◌-◌}
-use lib.ListN.{length}
-use native.Mathlib.Omega.{arith}
-use Rattle.translation.proofs.Seeking.{Sought, sought_first, sought_more, placed_here, placed_none}
+use Rattle.translation.proofs.Seeking.{sought_first, sought_more, placed_here, placed_none}
 use Rattle.translation.proofs.line_of.Goals as goal
 
 pub loop-at-init : goal.loop-at-init

@@ -2,8 +2,7 @@
 -- Assumes nothing.
 use Prim.Native.Nat.{◌+◌, ◌-◌}
 use lib.ListN.{length}
-use native.Mathlib.Omega.{arith}
-use Rattle.translation.proofs.Seeking.{Sought, sought_first, sought_more, placed_here, placed_none}
+use Rattle.translation.proofs.Seeking.{Sought}
 use Rattle.translation.proofs.line_of.Given as goal
 
 abbrev pub invariant-loop-at : goal.invariant-loop-at

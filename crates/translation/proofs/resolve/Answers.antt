@@ -1,6 +1,5 @@
 -- `resolve` meets its contract.
 -- Assumes nothing.
-use borrow.Author.Rules.{rules}
 use Rattle.translation.proofs.resolve.Goals as goal
 
 pub returns : goal.returns

@@ -3,7 +3,6 @@
 use mathlib.Core.Path.{◌∙◌}
 use Rattle.translation.specs.Code.{place_in}
 use Rattle.translation.proofs.Writing.{target_none, target_placed}
-use borrow.Author.Rules.{rules}
 use Rattle.translation.proofs.resolve_target.Goals as goal
 
 pub returns-then-target : goal.returns-then-target

@@ -1,7 +1,6 @@
 -- `resolve_written` meets its contract.
 -- Assumes nothing.
 use borrow.Author.Tests.{ne_eqb}
-use borrow.Author.Rules.{rules}
 use Rattle.translation.proofs.resolve_written.Goals as goal
 
 pub returns-then-key-eq-NO_NAME : goal.returns-then-key-eq-NO_NAME

@@ -2,7 +2,6 @@
 -- Assumes nothing.
 use mathlib.Core.Path.{◌≡◌, sym, ◌∙◌}
 use mathlib.Core.Bool.{false}
-use borrow.Author.Rules.{rules}
 use Rattle.events.specs.Events.{bad_script}
 use Rattle.running.proofs.Scripts.{few_events}
 use Rattle.tried.proofs.Visiting.{by_script, by_event, by_budget, by_room}

@@ -2,11 +2,6 @@
 use mathlib.Core.Path.{refl, sym}
 use lib.Seq.{length-take-le}
 use Rattle.tried.proofs.Trials.{prefix, tries}
-use borrow.Author.Rules.{rules}
-use Rattle.tried.proofs.try_text.Reads as reads
-use Rattle.tried.proofs.try_text.Lts as lts
-use Rattle.bench.proofs.run.Reads as run-reads
-use Rattle.bench.proofs.translate.Reads as translate-reads
 use Rattle.tried.proofs.try_text.Goals as goal
 
 pub slice_bounds-run-end : goal.slice_bounds-run-end

@@ -1,7 +1,6 @@
 -- `help_place` is safe and ends.
 -- Assumes nothing.
 use Prim.Native.Nat.{◌-◌}
-use borrow.Author.Rules.{rules}
 use Rattle.words.proofs.help_place.Given as goal
 
 abbrev pub invariant-loop : goal.invariant-loop

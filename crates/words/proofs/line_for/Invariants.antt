@@ -1,7 +1,6 @@
 -- `line_for` is safe and ends: the lines are counted.
 -- Assumes nothing.
 use Prim.Native.Nat.{◌-◌}
-use borrow.Author.Rules.{rules}
 use Rattle.words.proofs.line_for.Given as goal
 
 abbrev pub invariant-loop : goal.invariant-loop

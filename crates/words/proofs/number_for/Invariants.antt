@@ -1,7 +1,6 @@
 -- `number_for` is safe and ends.
 -- Assumes nothing.
 use Prim.Native.Nat.{◌-◌}
-use borrow.Author.Rules.{rules}
 use Rattle.words.proofs.number_for.Given as goal
 
 abbrev pub invariant-loop-number : goal.invariant-loop-number

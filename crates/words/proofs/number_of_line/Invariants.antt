@@ -1,7 +1,6 @@
 -- `number_of_line` is safe and ends: each turn is one byte nearer the table's end.
 -- Assumes nothing.
 use Prim.Native.Nat.{◌-◌}
-use borrow.Author.Rules.{rules}
 use Rattle.words.proofs.number_of_line.Given as goal
 
 abbrev pub invariant-loop-i : goal.invariant-loop-i

@@ -1,7 +1,6 @@
 -- `place_behind` is safe and ends: each turn is one byte nearer the table's end.
 -- Assumes nothing.
 use Prim.Native.Nat.{◌-◌}
-use borrow.Author.Rules.{rules}
 use Rattle.words.proofs.place_behind.Given as goal
 
 abbrev pub invariant-loop-i : goal.invariant-loop-i

@@ -1,6 +1,5 @@
 -- `clears` meets its contract: the statement reads ER, and its effect is no error.
 -- Assumes nothing.
-use native.Mathlib.Omega.{arith}
 use Rattle.program.proofs.Results.{held, failed}
 use Rattle.effects.specs.Deeds.{in_error, clears}
 use Rattle.acting.proofs.Reading.{no_error}

@@ -2,7 +2,6 @@
 -- Assumes nothing.
 use Rattle.program.specs.Cells.{value_of}
 use Rattle.effects.specs.Deeds.{is_er}
-use borrow.Author.Rules.{rules}
 use Rattle.acting.proofs.clearing.is_er.Goals as goal
 
 pub returns-in-Nothing : goal.returns-in-Nothing

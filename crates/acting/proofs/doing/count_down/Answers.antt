@@ -1,6 +1,5 @@
 -- `count_down` meets its contract: one less than what was read is stored.
 -- Assumes nothing.
-use native.Mathlib.Omega.{arith}
 use Rattle.program.proofs.Results.{got32, got64}
 use Rattle.acting.proofs.doing.count_down.Goals as goal
 

@@ -1,6 +1,5 @@
 -- `count_up` meets its contract: one more than what was read is stored.
 -- Assumes nothing.
-use native.Mathlib.Omega.{arith}
 use Rattle.program.proofs.Results.{got32, got64}
 use Rattle.acting.proofs.doing.count_up.Goals as goal
 

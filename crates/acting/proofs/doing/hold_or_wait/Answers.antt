@@ -1,7 +1,6 @@
 -- `hold_or_wait` meets its contract: by the kind of the operand.
 -- Assumes nothing.
 use mathlib.Core.Path.{◌≡◌}
-use native.Mathlib.Omega.{arith}
 use borrow.Author.Rules.{rules}
 use mir.Val.{to_z, of_z}
 use mir.Syntax.{w32}

@@ -1,7 +1,6 @@
 -- `holding` meets its contract: what is in the range of a hold is a number of turns above 0.
 -- Assumes nothing.
 use mathlib.Core.Path.{◌≡◌}
-use native.Mathlib.Omega.{arith}
 use borrow.Author.Tests.{le-ltb}
 use Rattle.numbers.proofs.Kit.{tests, wide, back32, back64}
 use Rattle.program.specs.Variables.{hold_range}

@@ -1,6 +1,5 @@
 -- `print` meets its contract: by the kind of the operand.
 -- Assumes nothing.
-use native.Mathlib.Omega.{arith}
 use borrow.Author.Rules.{rules}
 use Rattle.acting.specs.Code.{printing_by}
 use Rattle.program.proofs.Results.{got32}

@@ -5,7 +5,6 @@ use mathlib.Core.Bool.{true, false}
 use lib.Signed.{lt_z}
 use mir.Facts.{to_z-of_z}
 use mir.Syntax.{w64}
-use mir.Val.{to_z, of_z}
 use Rattle.program.specs.Variables.{literals}
 use Rattle.effects.specs.Errors.{result_error}
 use Rattle.acting.proofs.doing.result_error.Goals as goal

@@ -1,6 +1,5 @@
 -- `set` meets its contract: the value of the operand is stored.
 -- Assumes nothing.
-use native.Mathlib.Omega.{arith}
 use Rattle.program.proofs.Results.{got32}
 use Rattle.acting.proofs.doing.set.Goals as goal
 

@@ -1,6 +1,5 @@
 -- `set_with` meets its contract: the values of both operands are stored by the operator.
 -- Assumes nothing.
-use native.Mathlib.Omega.{arith}
 use Rattle.program.proofs.Results.{got32}
 use Rattle.acting.proofs.doing.set_with.Goals as goal
 

@@ -1,7 +1,6 @@
 -- `read` meets its contract: past the last variable stands 0.
 -- Assumes nothing.
 use mathlib.Core.Path.{sym}
-use native.Mathlib.Omega.{arith}
 use borrow.Author.Rules.{rules}
 use lib.ListN.{get_or-eq_default}
 use Rattle.effects.specs.Effects.{read}

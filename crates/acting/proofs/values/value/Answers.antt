@@ -1,7 +1,6 @@
 -- `value` meets its contract: an operand by its kind.
 -- Assumes nothing.
 use mathlib.Core.Path.{◌∙◌}
-use native.Mathlib.Omega.{arith}
 use borrow.Author.Rules.{rules}
 use Rattle.numbers.proofs.Kit.{fit32, back32}
 use Rattle.program.specs.Cells.{value_of}

@@ -1,8 +1,5 @@
 -- `motion_number` meets its contract: each motion has its number.
 use Rattle.bench.specs.Answers.{motion_number}
-use borrow.Author.Rules.{rules}
-use Rattle.bench.proofs.answers.motion_number.Reads as reads
-use Rattle.bench.proofs.answers.motion_number.Lts as lts
 use Rattle.bench.proofs.answers.motion_number.Goals as goal
 
 pub returns-in-Still : goal.returns-in-Still

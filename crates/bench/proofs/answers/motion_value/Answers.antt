@@ -4,8 +4,6 @@ use mir.Syntax.{w32}
 use mir.Val.{to_z, of_z}
 use Rattle.bench.specs.Answers.{motion_value}
 use borrow.Author.Rules.{rules}
-use Rattle.bench.proofs.answers.motion_value.Reads as reads
-use Rattle.bench.proofs.answers.motion_value.Lts as lts
 use Rattle.bench.proofs.answers.motion_value.Goals as goal
 
 pub returns-in-Still : goal.returns-in-Still

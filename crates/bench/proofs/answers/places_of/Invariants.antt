@@ -1,14 +1,12 @@
 -- `places_of` meets its contract: the first i places are those of specs/.
 -- Assumes nothing.
-use mathlib.Core.Path.{◌≡◌, refl, sym, ◌∙◌}
+use mathlib.Core.Path.{◌≡◌, sym, ◌∙◌}
 use mathlib.Core.List.{List, map}
 use Prim.Native.Nat.{ℕ, ◌+◌, ◌-◌, ◌%◌, ◌≤◌, ◌<◌}
 use native.Mathlib.Nat.{mod-eq_of_lt, mod-lt}
 use native.Mathlib.Omega.{arith}
-use borrow.Author.Rules.{rules}
 use lib.ListN.{length, get_or, set, length-set, length-map, get_or-map}
 use lib.Seq.{get_or-set_same, get_or-set_other, ext_get_or}
-use Rattle.numbers.proofs.Kit.{length_held}
 use Rattle.numbers.proofs.Truth.{if_same}
 use Rattle.machine.specs.declared.Place.{Place}
 use Rattle.bench.specs.declared.StatePlace.{StatePlace}

@@ -1,12 +1,9 @@
 -- `first_bad_event` meets its contract: the invariant: no event passed is bad.
 -- Assumes nothing.
-use mathlib.Core.Path.{sym, ◌≡◌, ◌∙◌}
+use mathlib.Core.Path.{◌≡◌}
 use mathlib.Core.Bool.{false}
 use Prim.Native.Nat.{ℕ, ◌-◌, ◌≤◌, ◌<◌}
-use native.Mathlib.Omega.{arith}
-use Rattle.events.specs.Events.{bad_event, event_count, first_bad_event}
-use Rattle.numbers.proofs.Tests.{first_none, first_here}
-use borrow.Author.Count.{below_more}
+use Rattle.events.specs.Events.{bad_event}
 use Rattle.events.proofs.script.first_bad_event.Given as goal
 
 abbrev pub invariant-loop-k : goal.invariant-loop-k

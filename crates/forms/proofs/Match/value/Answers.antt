@@ -1,6 +1,5 @@
 -- `Match::value` meets its contract.
 -- Assumes nothing.
-use native.Mathlib.Omega.{arith}
 use Rattle.forms.specs.Code.{value_by}
 use Rattle.forms.proofs.Match.value.Goals as goal
 

@@ -1,6 +1,5 @@
 -- `Match::word` meets its contract.
 -- Assumes nothing.
-use native.Mathlib.Omega.{arith}
 use Rattle.numbers.proofs.Kit.{tests}
 use Rattle.forms.specs.Code.{kept_by, word_by}
 use Rattle.forms.proofs.Match.word.Goals as goal

@@ -1,7 +1,6 @@
 -- `write::operand_number` meets its contract: by the cases of an operand.
 -- Assumes nothing.
 use mathlib.Core.Path.{ap, ◌∙◌}
-use native.Mathlib.Omega.{arith}
 use borrow.Author.Rules.{rules}
 use Rattle.numbers.specs.Bits.{digits32}
 use Rattle.image.specs.Layout.{operand_number}

@@ -1,6 +1,5 @@
 -- `write::shape` meets its contract: by the cases of an operand.
 -- Assumes nothing.
-use native.Mathlib.Omega.{arith}
 use Rattle.image.specs.Layout.{shape}
 use Rattle.image.proofs.write.shape.Goals as goal
 

@@ -1,7 +1,6 @@
 -- `write::write_cell` meets its contract: two halves, one behind the other.
 -- Assumes nothing.
 use mathlib.Core.Path.{sym}
-use native.Mathlib.Omega.{arith}
 use Rattle.numbers.proofs.Laws.{sets_out}
 use Rattle.image.specs.Layout.{cell_bytes}
 use Rattle.image.proofs.Laws.{twice_written, cell_halves}

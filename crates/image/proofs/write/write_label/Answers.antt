@@ -1,6 +1,5 @@
 -- `write::write_label` meets its contract: two fields as one number.
 -- Assumes nothing.
-use native.Mathlib.Omega.{arith}
 use Rattle.image.proofs.write.write_label.Goals as goal
 
 pub returns : goal.returns

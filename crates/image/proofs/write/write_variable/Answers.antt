@@ -1,7 +1,6 @@
 -- `write::write_variable` meets its contract: three fields as one number.
 -- Assumes nothing.
 use mathlib.Core.List.{append_assoc}
-use native.Mathlib.Omega.{arith}
 use Rattle.numbers.proofs.Kit.{back32}
 use Rattle.image.proofs.write.write_variable.Goals as goal
 

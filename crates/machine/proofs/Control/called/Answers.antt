@@ -1,6 +1,5 @@
 -- `Control::called` meets its contract: by what `keep` ensures.
 -- Assumes nothing.
-use native.Mathlib.Omega.{arith}
 use Rattle.machine.specs.Turn.{called}
 use Rattle.machine.proofs.Control.called.Goals as goal
 

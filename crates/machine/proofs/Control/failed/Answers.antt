@@ -1,6 +1,5 @@
 -- `Control::failed` meets its contract: the tests come in the order of specs/.
 -- Assumes nothing.
-use native.Mathlib.Omega.{arith}
 use borrow.Author.Tests.{eq-eqb, ne_eqb, lt-ltb, le-ltb}
 use Rattle.effects.specs.declared.Effect.TheVariants.{Fails}
 use Rattle.machine.specs.Turn.{no_handler, flagged, failed}

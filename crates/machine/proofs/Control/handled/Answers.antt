@@ -1,6 +1,5 @@
 -- `Control::handled` meets its contract: by what `keep` ensures.
 -- Assumes nothing.
-use native.Mathlib.Omega.{arith}
 use Rattle.machine.specs.Turn.{no_handler, handled}
 use Rattle.machine.proofs.Control.handled.Goals as goal
 

@@ -1,6 +1,5 @@
 -- `Control::moved` meets its contract: by what `onward` ensures.
 -- Assumes nothing.
-use native.Mathlib.Omega.{arith}
 use lib.ListN.{set}
 use Rattle.machine.specs.Turn.{in_motion, moving_bit}
 use Rattle.machine.proofs.Control.moved.Goals as goal

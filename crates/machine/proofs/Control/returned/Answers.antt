@@ -1,6 +1,5 @@
 -- `Control::returned` meets its contract: by what `last_place`, `rearmed` and `release` ensure.
 -- Assumes nothing.
-use native.Mathlib.Omega.{arith}
 use Rattle.machine.specs.Turn.{returned}
 use Rattle.machine.proofs.Control.returned.Goals as goal
 

@@ -1,6 +1,5 @@
 -- `Control::stops` meets its contract: only an error stops a run.
 -- Assumes nothing.
-use native.Mathlib.Omega.{arith}
 use Rattle.machine.specs.Turn.{no_handler, applied}
 use Rattle.machine.specs.Code.{joined}
 use Rattle.machine.proofs.Turns.{error_stops, runs_on}

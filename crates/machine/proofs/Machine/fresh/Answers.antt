@@ -1,6 +1,5 @@
 -- `Machine::fresh` meets its contract: the stores are those of specs/.
 -- Assumes nothing.
-use native.Mathlib.Omega.{arith}
 use Rattle.program.specs.Variables.{start_variables}
 use Rattle.machine.specs.Turn.{no_handler, start_machine}
 use Rattle.machine.proofs.Machine.fresh.Goals as goal

@@ -1,6 +1,5 @@
 -- `Motion::bit` meets its contract: by the kind of motion.
 -- Assumes nothing.
-use native.Mathlib.Omega.{arith}
 use Rattle.machine.specs.Turn.{moving_bit}
 use Rattle.machine.proofs.Motion.bit.Goals as goal
 

@@ -1,6 +1,5 @@
 -- `keep` meets its contract: one place is set.
 -- Assumes nothing.
-use native.Mathlib.Omega.{arith}
 use borrow.Author.Rules.{rules}
 use Rattle.machine.specs.Turn.{keep}
 use Rattle.machine.proofs.calls.keep.Goals as goal

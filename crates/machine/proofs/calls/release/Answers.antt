@@ -1,6 +1,5 @@
 -- `release` meets its contract: past the last place nothing is set.
 -- Assumes nothing.
-use native.Mathlib.Omega.{arith}
 use borrow.Author.Rules.{rules}
 use Rattle.numbers.proofs.Kit.{length_held, array_set_out}
 use Rattle.machine.specs.Turn.{release}

@@ -1,6 +1,5 @@
 -- `happen` meets its contract: the tests come in the order of specs/; a good event for an input has 0 or 1.
 -- Assumes nothing.
-use native.Mathlib.Omega.{arith}
 use borrow.Author.Rules.{rules}
 use mir.Val.{SFits}
 use mir.Syntax.{w32}

@@ -3,13 +3,11 @@
 use mathlib.Core.Path.{◌≡◌, refl, ◌∙◌}
 use mathlib.Core.Bool.{true}
 use mathlib.Core.List.{[]}
-use Prim.Native.Nat.{◌-◌, ◌≤◌}
+use Prim.Native.Nat.{◌-◌}
 use native.Mathlib.Omega.{arith}
-use lib.ListN.{length}
-use Rattle.machine.specs.declared.Machine.{Machine}
 use Rattle.machine.specs.Turn.{start_machine}
 use Rattle.events.specs.Events.{good_event}
-use Rattle.machine.specs.Code.{Inputs, moving, acts}
+use Rattle.machine.specs.Code.{acts}
 use Rattle.machine.proofs.Inputs.{inputs_happened, size_happened}
 use Rattle.events.proofs.Scripts.{good_events}
 use Rattle.machine.proofs.Starting.{acts_more}

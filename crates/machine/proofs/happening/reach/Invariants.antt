@@ -1,18 +1,10 @@
 -- `reach` meets its contract. The invariant: what the events left do to the machine here, all of them do to the machine at the start.
 -- Assumes nothing.
-use mathlib.Core.Path.{◌≡◌, refl, ◌∙◌}
-use mathlib.Core.Bool.{true}
-use mathlib.Core.List.{[]}
+use mathlib.Core.Path.{◌≡◌}
 use Prim.Native.Nat.{◌-◌, ◌≤◌}
-use native.Mathlib.Omega.{arith}
 use lib.ListN.{length}
 use Rattle.machine.specs.declared.Machine.{Machine}
-use Rattle.machine.specs.Turn.{start_machine}
-use Rattle.events.specs.Events.{good_event}
 use Rattle.machine.specs.Code.{Inputs, moving, acts}
-use Rattle.machine.proofs.Inputs.{inputs_happened, size_happened}
-use Rattle.events.proofs.Scripts.{good_events}
-use Rattle.machine.proofs.Starting.{acts_more}
 use Rattle.machine.proofs.happening.reach.Given as goal
 
 abbrev pub invariant-loop-k : goal.invariant-loop-k

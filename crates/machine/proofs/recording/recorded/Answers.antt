@@ -1,7 +1,6 @@
 -- `recorded` meets its contract: by the effect.
 -- Assumes nothing.
 use mathlib.Core.Path.{◌≡◌, ◌∙◌}
-use native.Mathlib.Omega.{arith}
 use mir.Val.{Fits, to_z, of_z}
 use mir.Syntax.{w8, w32}
 use Rattle.machine.specs.Turn.{applied}

@@ -1,7 +1,6 @@
 -- `apply` meets its contract: by the effect.
 -- Assumes nothing.
 use mathlib.Core.Path.{◌≡◌}
-use native.Mathlib.Omega.{arith}
 use mir.Val.{to_z, of_z}
 use mir.Syntax.{w32}
 use Rattle.machine.specs.Code.{changed}

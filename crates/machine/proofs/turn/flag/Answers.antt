@@ -1,6 +1,5 @@
 -- `flag` meets its contract: the error is the same number in 32 bits.
 -- Assumes nothing.
-use native.Mathlib.Omega.{arith}
 use Rattle.machine.proofs.Kit.{byte_up}
 use Rattle.machine.proofs.turn.flag.Goals as goal
 

@@ -1,6 +1,5 @@
 -- `set_moving` meets its contract: MV is set by the motion.
 -- Assumes nothing.
-use native.Mathlib.Omega.{arith}
 use Rattle.program.proofs.Results.{got32}
 use Rattle.machine.proofs.turn.set_moving.Goals as goal
 

@@ -1,6 +1,5 @@
 -- `store` meets its contract: past the last variable nothing is set.
 -- Assumes nothing.
-use native.Mathlib.Omega.{arith}
 use borrow.Author.Tests.{eq-eqb, ne_eqb}
 use Rattle.numbers.proofs.Kit.{back32}
 use Rattle.machine.specs.Turn.{stored}

@@ -1,7 +1,6 @@
 -- `bytes` is safe and ends.
 -- Assumes nothing.
 use Prim.Native.Nat.{◌-◌}
-use native.Mathlib.Omega.{arith}
 use Rattle.parts.proofs.Line.bytes.Given as goal
 
 abbrev pub invariant-loop-i : goal.invariant-loop-i

@@ -1,6 +1,5 @@
 -- `number` is safe and ends: each turn leaves a digit less.
 -- Assumes nothing.
-use native.Mathlib.Omega.{arith}
 use Rattle.parts.proofs.Line.number.Given as goal
 
 abbrev pub invariant-loop-left : goal.invariant-loop-left

@@ -1,7 +1,6 @@
 -- `repeated` is safe and ends.
 -- Assumes nothing.
 use Prim.Native.Nat.{◌-◌}
-use native.Mathlib.Omega.{arith}
 use Rattle.parts.proofs.Line.repeated.Given as goal
 
 abbrev pub invariant-loop : goal.invariant-loop

@@ -1,7 +1,6 @@
 -- `digit_before` is safe and ends.
 -- Assumes nothing.
 use Prim.Native.Nat.{◌-◌}
-use native.Mathlib.Omega.{arith}
 use Rattle.parts.proofs.writing.digit_before.Given as goal
 
 abbrev pub invariant-loop : goal.invariant-loop

@@ -1,7 +1,6 @@
 -- `width` is safe and ends.
 -- Assumes nothing.
 use Prim.Native.Nat.{◌-◌}
-use native.Mathlib.Omega.{arith}
 use Rattle.parts.proofs.writing.width.Given as goal
 
 abbrev pub invariant-loop-count : goal.invariant-loop-count

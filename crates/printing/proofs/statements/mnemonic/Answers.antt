@@ -1,7 +1,6 @@
 -- `mnemonic` meets its contract.
 -- Assumes nothing.
 use mathlib.Core.Path.{refl}
-use native.Mathlib.Omega.{arith}
 use borrow.Author.Tests.{le-leb, lt-leb}
 use Rattle.printing.specs.Code.{mnemonic_key}
 use Rattle.printing.proofs.statements.mnemonic.Goals as goal

@@ -1,7 +1,6 @@
 -- `opening` meets its contract.
 -- Assumes nothing.
 use mathlib.Core.Path.{◌∙◌}
-use native.Mathlib.Omega.{arith}
 use Rattle.image.specs.Layout.{cell_at}
 use Rattle.printing.specs.Code.{name_after, opening_text}
 use Rattle.printing.proofs.Pieces.{opening_words, there}

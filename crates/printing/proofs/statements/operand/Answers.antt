@@ -1,7 +1,6 @@
 -- `operand` meets its contract.
 -- Assumes nothing.
 use mathlib.Core.Path.{refl, ap, ◌∙◌}
-use native.Mathlib.Omega.{arith}
 use borrow.Author.Tests.{eq-eqb, ne_eqb}
 use Rattle.image.specs.Layout.{operand_at}
 use Rattle.printing.specs.Code.{packed, packed_in, operand_text}

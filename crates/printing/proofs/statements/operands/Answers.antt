@@ -1,7 +1,6 @@
 -- `operands` meets its contract.
 -- Assumes nothing.
 use mathlib.Core.Path.{◌∙◌}
-use native.Mathlib.Omega.{arith}
 use Rattle.image.specs.Layout.{cell_at}
 use Rattle.printing.specs.Code.{operands_text}
 use Rattle.printing.proofs.Pieces.{operands_words}

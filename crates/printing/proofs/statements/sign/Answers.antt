@@ -1,6 +1,5 @@
 -- `sign` meets its contract.
 -- Assumes nothing.
-use native.Mathlib.Omega.{arith}
 use borrow.Author.Tests.{eq-eqb, ne_eqb}
 use Rattle.printing.specs.Code.{packed, packed_in, sign_text}
 use Rattle.printing.proofs.statements.sign.Goals as goal

@@ -1,8 +1,7 @@
 -- `digits` meets its contract. The loop's invariant: the digits that are left, in front of the word so far, give the whole.
 -- Assumes nothing.
 use Prim.Native.Nat.{◌-◌}
-use native.Mathlib.Omega.{arith}
-use Rattle.printing.proofs.Packed.{Gathering, gathering, gathering_small, gathered_small, gathering_more, gathered_here, gathered_five}
+use Rattle.printing.proofs.Packed.{Gathering}
 use Rattle.printing.proofs.words.digits.Given as goal
 
 abbrev pub invariant-loop-count : goal.invariant-loop-count

@@ -1,9 +1,8 @@
 -- `put` meets its contract. The loop's invariant: what is left of the words, put from here on, gives the whole.
 -- Assumes nothing.
 use Prim.Native.Nat.{◌+◌}
-use native.Mathlib.Omega.{arith}
 use lib.ListN.{drop}
-use Rattle.printing.proofs.Pages.{left_of, left_less, Wording, wording, word_byte, word_next, words_put, words_out}
+use Rattle.printing.proofs.Pages.{left_of, Wording}
 use Rattle.printing.proofs.words.put.Given as goal
 
 abbrev pub invariant-loop-i : goal.invariant-loop-i

@@ -1,7 +1,6 @@
 -- `is_big` meets its contract.
 -- Assumes nothing.
 use mathlib.Core.Path.{sym}
-use native.Mathlib.Omega.{arith}
 use Rattle.forms.specs.Code.{value_of}
 use Rattle.text.specs.Faults.{big_value}
 use Rattle.reading.proofs.Values.{big_size}

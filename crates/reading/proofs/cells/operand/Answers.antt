@@ -1,6 +1,5 @@
 -- `operand` meets its contract.
 -- Assumes nothing.
-use native.Mathlib.Omega.{arith}
 use Rattle.numbers.proofs.Kit.{fit32, back32}
 use Rattle.forms.specs.Code.{value_of}
 use Rattle.reading.specs.Code.{operand_of}

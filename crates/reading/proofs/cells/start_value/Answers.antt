@@ -1,6 +1,5 @@
 -- `start_value` meets its contract.
 -- Assumes nothing.
-use native.Mathlib.Omega.{arith}
 use Rattle.numbers.proofs.Kit.{fit32, back32}
 use Rattle.forms.specs.Code.{start_of}
 use Rattle.reading.specs.Code.{small_of}

@@ -1,7 +1,6 @@
 -- `Pair::is_good` meets its contract: its tests are those of the definition.
 -- Assumes nothing.
 use mathlib.Core.Path.{refl}
-use native.Mathlib.Omega.{arith}
 use Rattle.settings.specs.Layout.{good_pair}
 use Rattle.settings.proofs.Pair.is_good.Goals as goal
 

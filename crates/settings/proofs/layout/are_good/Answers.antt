@@ -1,12 +1,9 @@
 -- `are_good` meets its contract: the invariant: the pairs that are left are good behind the last number exactly if all are.
 -- Assumes nothing.
-use mathlib.Core.Path.{◌≡◌, sym, ap, ◌∙◌}
-use Prim.Native.Nat.{◌-◌, ◌/◌, ◌≤◌}
+use mathlib.Core.Path.{sym, ap, ◌∙◌}
 use native.Mathlib.Omega.{arith}
-use borrow.Author.Tests.{not-true, not-false}
-use lib.ListN.{length}
-use Rattle.settings.specs.Layout.{pairs_of, good_pairs}
-use Rattle.settings.proofs.Loops.{rest, rest_all, good_next, good_not, good_end}
+use Rattle.settings.specs.Layout.{good_pairs}
+use Rattle.settings.proofs.Loops.{rest_all, good_next, good_not, good_end}
 use Rattle.settings.proofs.layout.are_good.Goals as goal
 
 pub loop-i-init : goal.loop-i-init

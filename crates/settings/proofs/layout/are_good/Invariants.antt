@@ -1,12 +1,10 @@
 -- `are_good` meets its contract: the invariant: the pairs that are left are good behind the last number exactly if all are.
 -- Assumes nothing.
-use mathlib.Core.Path.{◌≡◌, sym, ap, ◌∙◌}
+use mathlib.Core.Path.{◌≡◌}
 use Prim.Native.Nat.{◌-◌, ◌/◌, ◌≤◌}
-use native.Mathlib.Omega.{arith}
-use borrow.Author.Tests.{not-true, not-false}
 use lib.ListN.{length}
 use Rattle.settings.specs.Layout.{pairs_of, good_pairs}
-use Rattle.settings.proofs.Loops.{rest, rest_all, good_next, good_not, good_end}
+use Rattle.settings.proofs.Loops.{rest}
 use Rattle.settings.proofs.layout.are_good.Given as goal
 
 abbrev pub invariant-loop-i : goal.invariant-loop-i

@@ -1,8 +1,6 @@
 -- `is_laid_out` meets its contract: by the trailer, then by the edition.
 -- Assumes nothing.
 use mathlib.Core.Path.{sym}
-use native.Mathlib.Omega.{arith}
-use borrow.Author.Tests.{not-true, not-false}
 use Rattle.settings.proofs.Loops.{laid_not, laid_by_place, laid_by_pair}
 use Rattle.settings.proofs.layout.is_laid_out.Goals as goal
 

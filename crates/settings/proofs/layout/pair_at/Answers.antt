@@ -1,6 +1,5 @@
 -- `pair_at` meets its contract: each field is read where specs/ has it.
 -- Assumes nothing.
-use native.Mathlib.Omega.{arith}
 use Rattle.program.proofs.Results.{got32}
 use Rattle.settings.specs.Layout.{pair_at}
 use Rattle.settings.proofs.layout.pair_at.Goals as goal

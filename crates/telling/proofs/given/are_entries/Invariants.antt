@@ -1,7 +1,6 @@
 -- `are_entries` is safe and ends.
 -- Assumes nothing.
 use Prim.Native.Nat.{◌-◌}
-use borrow.Author.Rules.{rules}
 use Rattle.telling.proofs.given.are_entries.Given as goal
 
 abbrev pub invariant-loop-k : goal.invariant-loop-k

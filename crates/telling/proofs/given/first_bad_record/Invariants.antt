@@ -1,7 +1,6 @@
 -- `first_bad_record` is safe and ends.
 -- Assumes nothing.
 use Prim.Native.Nat.{◌-◌}
-use borrow.Author.Rules.{rules}
 use Rattle.telling.proofs.given.first_bad_record.Given as goal
 
 abbrev pub invariant-loop-k : goal.invariant-loop-k

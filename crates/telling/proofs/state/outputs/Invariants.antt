@@ -1,7 +1,6 @@
 -- `outputs` is safe and ends: the outputs are among the variables.
 -- Assumes nothing.
 use Prim.Native.Nat.{◌-◌}
-use borrow.Author.Rules.{rules}
 use Rattle.telling.proofs.state.outputs.Given as goal
 
 abbrev pub invariant-loop-number : goal.invariant-loop-number

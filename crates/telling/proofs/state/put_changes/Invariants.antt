@@ -1,7 +1,6 @@
 -- `put_changes` is safe and ends.
 -- Assumes nothing.
 use Prim.Native.Nat.{◌-◌}
-use borrow.Author.Rules.{rules}
 use Rattle.telling.proofs.state.put_changes.Given as goal
 
 abbrev pub invariant-loop-k : goal.invariant-loop-k

@@ -1,7 +1,6 @@
 -- `put_lines` is safe and ends.
 -- Assumes nothing.
 use Prim.Native.Nat.{◌-◌}
-use borrow.Author.Rules.{rules}
 use Rattle.telling.proofs.trace.put_lines.Given as goal
 
 abbrev pub invariant-loop-place : goal.invariant-loop-place

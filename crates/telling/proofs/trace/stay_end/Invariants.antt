@@ -1,7 +1,6 @@
 -- `stay_end` is safe and ends: the end nears the turns.
 -- Assumes nothing.
 use Prim.Native.Nat.{◌-◌}
-use borrow.Author.Rules.{rules}
 use Rattle.telling.proofs.trace.stay_end.Given as goal
 
 abbrev pub invariant-loop-end : goal.invariant-loop-end

@@ -3,7 +3,6 @@
 use mathlib.Core.Path.{◌≡◌, refl}
 use mir.Facts.{to_z-of_z}
 use mir.Syntax.{w64}
-use borrow.Author.Rules.{rules}
 use Rattle.numbers.proofs.Kit.{within32}
 use Rattle.program.specs.Variables.{in_range, literals}
 use Rattle.program.proofs.Results.{tested, held}

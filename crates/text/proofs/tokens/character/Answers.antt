@@ -1,6 +1,5 @@
 -- `character` meets its contract.
 -- Assumes nothing.
-use native.Mathlib.Omega.{arith}
 use lib.ListN.{get_or-eq_default}
 use Rattle.text.proofs.Scanning.{inside}
 use Rattle.text.proofs.tokens.character.Goals as goal

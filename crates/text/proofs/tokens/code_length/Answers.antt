@@ -1,11 +1,7 @@
 -- `code_length` meets its contract. The loop's invariant: what is left from here gives the whole.
 -- Assumes nothing.
-use Prim.Native.Nat.{◌≤◌, ◌+◌, ◌-◌}
-use lib.ListN.{length, drop}
-use mathlib.Core.Path.{◌≡◌}
 use native.Mathlib.Numerals.{add-one}
 use native.Mathlib.Omega.{arith}
-use Rattle.text.specs.Tokens.{uncommented}
 use Rattle.text.proofs.Scanning.{code_more, code_stop, code_end}
 use Rattle.text.proofs.tokens.code_length.Goals as goal
 

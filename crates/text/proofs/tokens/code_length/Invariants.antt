@@ -3,10 +3,7 @@
 use Prim.Native.Nat.{◌≤◌, ◌+◌, ◌-◌}
 use lib.ListN.{length, drop}
 use mathlib.Core.Path.{◌≡◌}
-use native.Mathlib.Numerals.{add-one}
-use native.Mathlib.Omega.{arith}
 use Rattle.text.specs.Tokens.{uncommented}
-use Rattle.text.proofs.Scanning.{code_more, code_stop, code_end}
 use Rattle.text.proofs.tokens.code_length.Given as goal
 
 abbrev pub invariant-loop-i : goal.invariant-loop-i

@@ -1,12 +1,7 @@
 -- `is_printable` meets its contract. The loop's invariant: what was found so far and the bytes from here on decide.
 -- Assumes nothing.
-use Prim.Native.Nat.{◌≤◌, ◌-◌}
-use lib.ListN.{length, drop}
-use mathlib.Core.Bool.{◌&&◌}
-use mathlib.Core.Path.{◌≡◌, refl, ◌∙◌}
+use mathlib.Core.Path.{refl, ◌∙◌}
 use native.Mathlib.Omega.{arith}
-use Rattle.numbers.specs.Tests.{all_of}
-use Rattle.text.specs.Tokens.{printable}
 use Rattle.text.proofs.Scanning.{printable_more, printable_end}
 use Rattle.text.proofs.tokens.is_printable.Goals as goal
 

@@ -3,11 +3,9 @@
 use Prim.Native.Nat.{◌≤◌, ◌-◌}
 use lib.ListN.{length, drop}
 use mathlib.Core.Bool.{◌&&◌}
-use mathlib.Core.Path.{◌≡◌, refl, ◌∙◌}
-use native.Mathlib.Omega.{arith}
+use mathlib.Core.Path.{◌≡◌}
 use Rattle.numbers.specs.Tests.{all_of}
 use Rattle.text.specs.Tokens.{printable}
-use Rattle.text.proofs.Scanning.{printable_more, printable_end}
 use Rattle.text.proofs.tokens.is_printable.Given as goal
 
 abbrev pub invariant-loop-i : goal.invariant-loop-i

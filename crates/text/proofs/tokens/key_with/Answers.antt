@@ -1,6 +1,5 @@
 -- `key_with` meets its contract.
 -- Assumes nothing.
-use native.Mathlib.Omega.{arith}
 use Rattle.numbers.proofs.Kit.{tests}
 use Rattle.text.specs.Code.{key_with}
 use Rattle.text.proofs.tokens.key_with.Goals as goal

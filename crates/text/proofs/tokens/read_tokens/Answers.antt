@@ -1,10 +1,8 @@
 -- `read_tokens` meets its contract. The loop's invariant: reading on from here gives the whole; the present token has no more characters than were passed.
 -- Assumes nothing.
-use Prim.Native.Nat.{◌≤◌, ◌<◌, ◌-◌, ◌^◌}
-use lib.ListN.{length, drop, get_or}
-use mathlib.Core.Path.{◌≡◌, refl, sym, ◌∙◌}
+use lib.ListN.{drop, get_or}
+use mathlib.Core.Path.{refl, sym, ◌∙◌}
 use native.Mathlib.Omega.{arith}
-use Rattle.text.specs.Code.{scan, no_tokens, no_word}
 use Rattle.text.proofs.Scanning.{scan_more, scan_ends, scan_start, scan_end, scan_full, push_is, grown_fits, none_fits}
 use Rattle.text.proofs.Packing.{scan_packs}
 use Rattle.text.proofs.tokens.read_tokens.Goals as goal
@@ -20,7 +18,7 @@ grown-w-requires c = record { counts = omega arith; small = c.loop-i.invariant.2
 pub returns-then-n-ge-MOST : goal.returns-then-n-ge-MOST
 returns-then-n-ge-MOST c =
     let l = c.args.l.now in
-    sym (scan_full c.loop-i.ts c.loop-i.w (drop c.loop-i.i l) c.if-n-ge-MOST.true) ∙ c.loop-i.invariant.3 ∙ scan_packs l (λ i. omega (arith, c.shared_slice_known-1.given i))
+    sym (scan_full c.loop-i.ts c.loop-i.w (drop c.loop-i.i l) c.if-n-ge-MOST.true) ∙ c.loop-i.invariant.3 ∙ scan_packs l (λ i. omega (arith, c.type_inv.l i))
 
 pub loop-i-preserved-then-ends : goal.loop-i-preserved-then-ends
 loop-i-preserved-then-ends c =
@@ -48,4 +46,4 @@ loop-i-preserved c =
 pub returns : goal.returns
 returns c =
     let l = c.args.l.now in
-    sym (scan_end l c.loop-i.ts c.loop-i.w c.loop-i.i c.loop-i-test.false) ∙ c.loop-i.invariant.3 ∙ scan_packs l (λ i. omega (arith, c.shared_slice_known-1.given i))
+    sym (scan_end l c.loop-i.ts c.loop-i.w c.loop-i.i c.loop-i-test.false) ∙ c.loop-i.invariant.3 ∙ scan_packs l (λ i. omega (arith, c.type_inv.l i))

@@ -1,12 +1,9 @@
 -- `read_tokens` meets its contract. The loop's invariant: reading on from here gives the whole; the present token has no more characters than were passed.
 -- Assumes nothing.
 use Prim.Native.Nat.{◌≤◌, ◌<◌, ◌-◌, ◌^◌}
-use lib.ListN.{length, drop, get_or}
-use mathlib.Core.Path.{◌≡◌, refl, sym, ◌∙◌}
-use native.Mathlib.Omega.{arith}
+use lib.ListN.{length, drop}
+use mathlib.Core.Path.{◌≡◌}
 use Rattle.text.specs.Code.{scan, no_tokens, no_word}
-use Rattle.text.proofs.Scanning.{scan_more, scan_ends, scan_start, scan_end, scan_full, push_is, grown_fits, none_fits}
-use Rattle.text.proofs.Packing.{scan_packs}
 use Rattle.text.proofs.tokens.read_tokens.Given as goal
 
 abbrev pub invariant-loop-i : goal.invariant-loop-i

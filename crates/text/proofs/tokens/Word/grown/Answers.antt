@@ -1,6 +1,5 @@
 -- `Word::grown` meets its contract.
 -- Assumes nothing.
-use native.Mathlib.Omega.{arith}
 use borrow.Author.Tests.{eq-eqb, ne_eqb}
 use Rattle.text.specs.Code.{grown}
 use Rattle.text.proofs.Scanning.{grown_is, digits_more}
