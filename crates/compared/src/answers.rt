@@ -38,7 +38,7 @@ fn translated(answer: bench::Translated) -> Line {
 
 // The bytes of a text's image.
 fn image(text: &[u8]) -> Line {
-    let mut image = io::large_buffer();
+    let mut image = [0u8; ROOM];
     let answer = bench::translate(text, &mut image);
     described::hex(parts::front(&image, answer.length))
 }
@@ -55,7 +55,7 @@ fn check(image: &[u8], events: &[u8]) -> Line {
 
 // The run of a text's image.
 fn run(text: &[u8], events: &[u8], budget: u64, room: usize) -> Line {
-    let mut image = io::large_buffer();
+    let mut image = [0u8; ROOM];
     let translated = bench::translate(text, &mut image);
     ran(
         Line::empty(),

@@ -333,7 +333,7 @@ fn edit(image: &mut Page, held: usize, rest: &[u8]) -> usize {
 
 // The image takes its text's place.
 fn translate(text: &mut Page, held: usize) -> usize {
-    let mut image = io::large_buffer();
+    let mut image = writing::page();
     let answer = bench::translate(writing::held_on(text, held), &mut image);
     if answer.number != 0 {
         return BROKEN;
