@@ -122,10 +122,7 @@ fn refuse<W: Write>(output: &mut W) -> io::Result<bool> {
 // Reads a header or a part of a request: so many bytes, or fewer where the input ends before.
 fn receive<R: Read>(alloc: Global, input: &mut R, length: usize) -> io::Result<Vec<u8>> {
     let mut part = Vec::new(alloc);
-    input
-        .by_ref()
-        .take(length as u64)
-        .read_to_end(&mut part)?;
+    input.by_ref().take(length as u64).read_to_end(&mut part)?;
     Ok(part)
 }
 
@@ -257,11 +254,7 @@ fn serve<R: Read, W: Write>(
 }
 
 // Answers the next request, and whether to go on: not at the end of the input, nor after a broken request.
-fn answer<R: Read, W: Write>(
-    alloc: Global,
-    input: &mut R,
-    output: &mut W,
-) -> io::Result<bool> {
+fn answer<R: Read, W: Write>(alloc: Global, input: &mut R, output: &mut W) -> io::Result<bool> {
     let bytes = receive(alloc, input, HEADER_SIZE)?;
     if bytes.is_empty() {
         return Ok(false);
