@@ -5,7 +5,7 @@
 mod answers;
 mod described;
 mod input;
-mod words;
+mod vocabulary;
 
 use parts::{Line, writing};
 use std::io::{self, Read, Write};
@@ -47,17 +47,17 @@ fn write<W: Write>(output: &mut W, line: Line) -> io::Result<()> {
 // Writes what is said of a case.
 fn say<W: Write>(output: &mut W, name: &[u8], said: usize) -> io::Result<()> {
     output.write_all(name)?;
-    write(output, words::put(Line::empty(), said).end())
+    write(output, vocabulary::put(Line::empty(), said).end())
 }
 
 // Writes the line of a case, and answers whether it agrees. What was got is told where it does not.
 fn told<W: Write>(output: &mut W, name: &[u8], got: Line, wanted: &[u8]) -> io::Result<bool> {
     let bytes = got.bytes;
     if parts::same(writing::held_in(&bytes, got.held), wanted) {
-        say(output, name, words::AS_EXPECTED)?;
+        say(output, name, vocabulary::AS_EXPECTED)?;
         return Ok(true);
     }
-    say(output, name, words::NOT_AS_EXPECTED)?;
+    say(output, name, vocabulary::NOT_AS_EXPECTED)?;
     write(output, got.end())?;
     Ok(false)
 }
@@ -69,7 +69,7 @@ fn tried<W: Write>(output: &mut W, input: &[u8], head: input::Span) -> io::Resul
     let gives = input::place_or_end(input, call.next);
     let wanted = input::line(input, gives);
     if !input::is_answer(wanted) | !input::is_end(input, gives.next) {
-        say(output, name, words::NOT_TRIED)?;
+        say(output, name, vocabulary::NOT_TRIED)?;
         return Ok(false);
     }
     let got = answered(input, head.next, input::line(input, call));
@@ -115,6 +115,6 @@ fn main(rt: HostRuntime) -> io::Result<()> {
     let mut output = rt.stdout();
     let count = tally(&mut output, &input)?;
     let mut line = Line::empty().number(count.agreeing);
-    line = words::put(line, words::OF).number(count.all);
-    write(&mut output, words::put(line, words::AGREE).end())
+    line = vocabulary::put(line, vocabulary::OF).number(count.all);
+    write(&mut output, vocabulary::put(line, vocabulary::AGREE).end())
 }
