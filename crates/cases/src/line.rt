@@ -2,8 +2,8 @@
 ghost use Rattle.std.specs.Prelude.{◌≤◌};
 
 use bench::{Ran, State, StatePlace};
-use libc::STDOUT_FILENO;
 use parts::{Line, writing};
+use std::io::{self, Write};
 
 // What a lent buffer is filled with before a call.
 pub const FILLER: u8 = 0xAA;
@@ -20,19 +20,19 @@ const USER_START: usize = 32;
 
 const USER_END: usize = 64;
 
-// Writes what a line holds; false where that cannot be written.
-fn write(line: Line) -> bool {
+// Writes what a line holds.
+fn write<W: Write>(output: &mut W, line: Line) -> io::Result<()> {
     let bytes = line.bytes;
-    io::write_all(STDOUT_FILENO, writing::held_in(&bytes, line.held))
+    output.write_all(writing::held_in(&bytes, line.held))
 }
 
 // A line with room for more.
-fn roomy(line: Line) -> Line {
+fn roomy<W: Write>(output: &mut W, line: Line) -> io::Result<Line> {
     if line.held < LONG {
-        return line;
+        return Ok(line);
     }
-    write(line);
-    Line::empty()
+    write(output, line)?;
+    Ok(Line::empty())
 }
 
 // A space, and a number in decimal.
@@ -110,10 +110,11 @@ fn motion(mut line: Line, handler: u16, hold: u32, motion: u8, value: i32) -> Li
 
 // Ends a line with a lent buffer as it is after the call: behind a space its bytes up to the last that is no filler, a full stop, and how many
 // fillers follow.
-pub fn contents(mut line: Line, buffer: &[u8]) -> bool {
+pub fn contents<W: Write>(output: &mut W, mut line: Line, buffer: &[u8]) -> io::Result<()> {
     let count = used(buffer);
-    line = hex(line.byte(b' '), parts::front(buffer, count));
+    line = hex(output, line.byte(b' '), parts::front(buffer, count))?;
     end(
+        output,
         line.byte(b'.')
             .number(parts::back(buffer, count).len() as u64),
     )
@@ -129,14 +130,14 @@ fn used(buffer: &[u8]) -> usize {
     count
 }
 
-fn hex(mut line: Line, values: &[u8]) -> Line {
+fn hex<W: Write>(output: &mut W, mut line: Line, values: &[u8]) -> io::Result<Line> {
     for i in 0..values.len() {
-        line = roomy(line).hex(values[i]);
+        line = roomy(output, line)?.hex(values[i]);
     }
-    line
+    Ok(line)
 }
 
-// Ends the line and writes it; false where that cannot be written.
-pub fn end(line: Line) -> bool {
-    write(line.end())
+// Ends the line and writes it.
+pub fn end<W: Write>(output: &mut W, line: Line) -> io::Result<()> {
+    write(output, line.end())
 }

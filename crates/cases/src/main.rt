@@ -1,12 +1,14 @@
 // Reads requests from standard input and writes one line for each to standard output, until the input ends. A request is a header and the
-// bytes of its two parts; a request that is broken gets the line `E`, and the program stops.
+// bytes of its two parts; a request that is broken gets the line `E`, and the program stops. It stops with an error where it cannot read or
+// write, or gets no memory.
 #![tactic(auto)]
 
 mod line;
 
-use libc::{STDIN_FILENO, STDOUT_FILENO};
 use parts::Line;
 use settings::Shown;
+use std::alloc::Global;
+use std::io::{self, BufReader, Read, Write};
 
 const HEADER_SIZE: usize = 20;
 
@@ -112,54 +114,64 @@ impl Header {
 }
 
 // Writes the line of a broken request, and answers that the program stops.
-fn refuse() -> bool {
-    io::write_all(STDOUT_FILENO, b"E\n");
-    false
+fn refuse<W: Write>(output: &mut W) -> io::Result<bool> {
+    output.write_all(b"E\n")?;
+    Ok(false)
 }
 
-// Reads a part of a request; false where the input ends before the part does.
-fn receive(room: &mut [u8], length: usize) -> bool {
-    io::read_full(STDIN_FILENO, parts::lent(room, length)) == length
+// Reads a header or a part of a request: so many bytes, or fewer where the input ends before.
+fn receive<R: Read>(alloc: Global, input: &mut R, length: usize) -> io::Result<Vec<u8>> {
+    let mut part = Vec::new(alloc);
+    input.by_ref().take(length as u64).read_to_end(&mut part)?;
+    Ok(part)
 }
 
-fn answer_translate(text: &[u8], image: &mut [u8]) -> bool {
+fn answer_translate<W: Write>(output: &mut W, text: &[u8], image: &mut [u8]) -> io::Result<()> {
     let translated = bench::translate(text, image);
     let mut line = Line::empty().byte(b'T');
     line = line::number(line, translated.number as u64);
     line = line::number(line, translated.line as u64);
     line = line::number(line, translated.length as u64);
-    line::contents(line, image)
+    line::contents(output, line, image)
 }
 
-fn answer_check(image: &[u8]) -> bool {
+fn answer_check<W: Write>(output: &mut W, image: &[u8]) -> io::Result<()> {
     let checked = bench::check(image);
-    line::end(line::number(Line::empty().byte(b'C'), checked.number as u64))
+    line::end(
+        output,
+        line::number(Line::empty().byte(b'C'), checked.number as u64),
+    )
 }
 
-fn answer_list(image: &[u8], text: &mut [u8]) -> bool {
+fn answer_list<W: Write>(output: &mut W, image: &[u8], text: &mut [u8]) -> io::Result<()> {
     let listed = bench::list(image, text);
     let mut line = Line::empty().byte(b'L');
     line = line::number(line, listed.number as u64);
     line = line::number(line, listed.length as u64);
-    line::contents(line, text)
+    line::contents(output, line, text)
 }
 
-fn answer_compare(first: &[u8], second: &[u8], list: &mut [u8]) -> bool {
+fn answer_compare<W: Write>(
+    output: &mut W,
+    first: &[u8],
+    second: &[u8],
+    list: &mut [u8],
+) -> io::Result<()> {
     let compared = comparing::compare(first, second, list);
     let mut line = Line::empty().byte(b'D');
     line = line::number(line, compared.number as u64);
     line = line::number(line, compared.entries as u64);
-    line::contents(line, list)
+    line::contents(output, line, list)
 }
 
-fn answer_settings(shown: Shown) -> bool {
+fn answer_settings<W: Write>(output: &mut W, shown: Shown) -> io::Result<()> {
     let settings = shown.settings;
     let mut line = Line::empty().byte(b'S');
     line = line::number(line, shown.number as u64);
     line = line::signed(line, settings.a);
     line = line::signed(line, settings.d);
     line = line::signed(line, settings.vi);
-    line::end(line::signed(line, settings.vm))
+    line::end(output, line::signed(line, settings.vm))
 }
 
 // A settings file, read by one of the readers over the given values.
@@ -170,34 +182,53 @@ fn read_settings(reader: u64, file: &[u8], given: &[u8]) -> Shown {
     settings::read(file, settings::by_place(given))
 }
 
-fn answer_run(image: &[u8], events: &[u8], budget: u64, records: &mut [u8]) -> bool {
+fn answer_run<W: Write>(
+    output: &mut W,
+    image: &[u8],
+    events: &[u8],
+    budget: u64,
+    records: &mut [u8],
+) -> io::Result<()> {
     let ran = bench::run(image, events, budget, records);
-    line::contents(line::ran(Line::empty().byte(b'R'), ran), records)
+    line::contents(output, line::ran(Line::empty().byte(b'R'), ran), records)
 }
 
 // Makes the call of a request on its parts and on the buffer, and writes the answer. The number is a run's budget, or which reader is asked.
-fn call(kind: usize, number: u64, first: &[u8], second: &[u8], lent: &mut [u8]) -> bool {
+fn call<W: Write>(
+    output: &mut W,
+    kind: usize,
+    number: u64,
+    first: &[u8],
+    second: &[u8],
+    lent: &mut [u8],
+) -> io::Result<()> {
     if kind == TRANSLATE {
-        return answer_translate(first, lent);
+        return answer_translate(output, first, lent);
     }
     if kind == CHECK {
-        return answer_check(first);
+        return answer_check(output, first);
     }
     if kind == LIST {
-        return answer_list(first, lent);
+        return answer_list(output, first, lent);
     }
     if kind == COMPARE {
-        return answer_compare(first, second, lent);
+        return answer_compare(output, first, second, lent);
     }
     if kind == SETTINGS {
-        return answer_settings(read_settings(number, first, second));
+        return answer_settings(output, read_settings(number, first, second));
     }
-    answer_run(first, second, number, lent)
+    answer_run(output, first, second, number, lent)
 }
 
-fn call_with(header: Header, first: &[u8], second: &[u8]) -> bool {
+fn call_with<W: Write>(
+    output: &mut W,
+    header: Header,
+    first: &[u8],
+    second: &[u8],
+) -> io::Result<()> {
     let mut lent = [line::FILLER; ROOM];
     call(
+        output,
         header.kind,
         header.n3 as u64,
         first,
@@ -206,37 +237,43 @@ fn call_with(header: Header, first: &[u8], second: &[u8]) -> bool {
     )
 }
 
-// Reads the parts of a request, and answers it.
-fn serve(header: Header) -> bool {
-    let mut first = [0u8; ROOM];
-    let mut second = [0u8; ROOM];
-    let n1 = header.n1;
-    let n2 = header.n2;
-    let got = receive(&mut first, n1);
-    if !(receive(&mut second, n2) & got) {
-        return refuse();
+// Reads the parts of a request and answers it, and whether to go on.
+fn serve<R: Read, W: Write>(
+    alloc: Global,
+    input: &mut R,
+    output: &mut W,
+    header: Header,
+) -> io::Result<bool> {
+    let first = receive(alloc, input, header.n1)?;
+    let second = receive(alloc, input, header.n2)?;
+    if (first.len() < header.n1) | (second.len() < header.n2) {
+        return refuse(output);
     }
-    call_with(header, parts::front(&first, n1), parts::front(&second, n2))
+    call_with(output, header, &first, &second)?;
+    Ok(true)
 }
 
 // Answers the next request, and whether to go on: not at the end of the input, nor after a broken request.
-fn answer() -> bool {
-    let mut bytes = [0u8; HEADER_SIZE];
-    let got = io::read_full(STDIN_FILENO, &mut bytes);
-    if got == 0 {
-        return false;
+fn answer<R: Read, W: Write>(alloc: Global, input: &mut R, output: &mut W) -> io::Result<bool> {
+    let bytes = receive(alloc, input, HEADER_SIZE)?;
+    if bytes.is_empty() {
+        return Ok(false);
     }
     let header = Header::of(&bytes);
-    if (got < HEADER_SIZE) | !header.is_sound() {
-        return refuse();
+    if (bytes.len() < HEADER_SIZE) | !header.is_sound() {
+        return refuse(output);
     }
-    serve(header)
+    serve(alloc, input, output, header)
 }
 
-// A proved loop has to end, and nothing says that the input does. So the loop counts its turns down, from a number that no run uses up.
-fn main() {
-    let mut turns = u64::MAX;
-    while turns > 0 && answer() {
-        turns -= 1;
+// A proved loop has to end, and nothing says that the input does. So the loop counts its turns, to a number that no run reaches.
+fn main(rt: HostRuntime) -> io::Result<()> {
+    let mut input = BufReader::new(rt.alloc(), rt.stdin())?;
+    let mut output = rt.stdout();
+    for _ in 0..u64::MAX {
+        if !answer(rt.alloc(), &mut input, &mut output)? {
+            break;
+        }
     }
+    Ok(())
 }

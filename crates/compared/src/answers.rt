@@ -2,7 +2,7 @@
 //
 // A buffer that is lent is full of the filler before the call. The bytes that a call may not touch, those after the image or the last record
 // and all of them where it refuses, are counted as `changed` where they are no longer that.
-use crate::{described, input, words};
+use crate::{described, input, vocabulary};
 use parts::Line;
 
 const ROOM: usize = 65536;
@@ -31,14 +31,14 @@ fn translate(text: &[u8], room: usize) -> Line {
 }
 
 fn translated(answer: bench::Translated) -> Line {
-    let mut line = described::named(Line::empty(), words::NUMBER, answer.number as u64);
-    line = described::named(line, words::LINE, answer.line as u64);
-    described::named(line, words::LENGTH, answer.length as u64)
+    let mut line = described::named(Line::empty(), vocabulary::NUMBER, answer.number as u64);
+    line = described::named(line, vocabulary::LINE, answer.line as u64);
+    described::named(line, vocabulary::LENGTH, answer.length as u64)
 }
 
 // The bytes of a text's image.
 fn image(text: &[u8]) -> Line {
-    let mut image = io::large_buffer();
+    let mut image = [0u8; ROOM];
     let answer = bench::translate(text, &mut image);
     described::hex(parts::front(&image, answer.length))
 }
@@ -46,16 +46,22 @@ fn image(text: &[u8]) -> Line {
 // Where an image is refused, so is its run.
 fn check(image: &[u8], events: &[u8]) -> Line {
     let answer = bench::check(image);
-    let line = described::named(Line::empty(), words::NUMBER, answer.number as u64);
+    let line = described::named(Line::empty(), vocabulary::NUMBER, answer.number as u64);
     if answer.number == 0 {
         return line;
     }
-    ran(described::word(line, words::RUN), image, events, 1, ROOM)
+    ran(
+        described::word(line, vocabulary::RUN),
+        image,
+        events,
+        1,
+        ROOM,
+    )
 }
 
 // The run of a text's image.
 fn run(text: &[u8], events: &[u8], budget: u64, room: usize) -> Line {
-    let mut image = io::large_buffer();
+    let mut image = [0u8; ROOM];
     let translated = bench::translate(text, &mut image);
     ran(
         Line::empty(),

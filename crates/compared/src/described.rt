@@ -2,7 +2,7 @@
 // handler that is none, a variable with the value that it has at the start; where the run is refused, all that is 0. So two runs that differ
 // have different lines. A return place stands as `p0=3`, and with `m0=1 t0=4` behind it where the call of the handler at cell 4 kept it. A
 // variable stands as `ER=104`, a user variable by its number as `32=7`, and a record as `[turn kind number value]`.
-use crate::words;
+use crate::vocabulary;
 use bench::{Ran, State, StatePlace};
 use events::Event;
 use parts::Line;
@@ -28,7 +28,7 @@ fn gap(line: Line) -> Line {
 
 // A word, behind a space.
 pub fn word(line: Line, name: usize) -> Line {
-    words::put(gap(line), name)
+    vocabulary::put(gap(line), name)
 }
 
 // A word and a number.
@@ -55,10 +55,10 @@ pub fn hex(values: &[u8]) -> Line {
 
 pub fn ran(mut line: Line, ran: Ran, records: &[u8]) -> Line {
     let end = ran.state;
-    line = part(line, words::REFUSED, ran.number as u64, 0);
-    line = part(line, words::INDEX, ran.index as u64, 0);
-    line = part(line, words::REASON, ran.reason as u64, 0);
-    line = part(line, words::TURNS, ran.turns, 0);
+    line = part(line, vocabulary::REFUSED, ran.number as u64, 0);
+    line = part(line, vocabulary::INDEX, ran.index as u64, 0);
+    line = part(line, vocabulary::REASON, ran.reason as u64, 0);
+    line = part(line, vocabulary::TURNS, ran.turns, 0);
     line = state(line, end, ran.number != 0);
     recorded(line, records, ran.records)
 }
@@ -66,8 +66,8 @@ pub fn ran(mut line: Line, ran: Ran, records: &[u8]) -> Line {
 fn state(mut line: Line, state: State, refused: bool) -> Line {
     let kept = state.places;
     let values = state.variables;
-    line = part(line, words::NEXT, state.next as u64, 0);
-    line = part(line, words::KEPT, state.kept as u64, 0);
+    line = part(line, vocabulary::NEXT, state.next as u64, 0);
+    line = part(line, vocabulary::KEPT, state.kept as u64, 0);
     line = places(line, kept);
     line = handler(line, state.handler as u64, refused);
     line = motion(line, state.hold, state.motion, state.value);
@@ -97,19 +97,19 @@ fn numbered(mut line: Line, letter: u8, i: usize, n: u64) -> Line {
 
 fn handler(line: Line, handler: u64, refused: bool) -> Line {
     if refused {
-        return part(line, words::HANDLER, handler, 0);
+        return part(line, vocabulary::HANDLER, handler, 0);
     }
-    part(line, words::HANDLER, handler, NO_HANDLER)
+    part(line, vocabulary::HANDLER, handler, NO_HANDLER)
 }
 
 // The hold left, and the motion with its target or velocity.
 fn motion(mut line: Line, hold: u32, motion: u8, value: i32) -> Line {
-    line = part(line, words::HOLD, hold as u64, 0);
-    line = part(line, words::MOTION, motion as u64, 0);
+    line = part(line, vocabulary::HOLD, hold as u64, 0);
+    line = part(line, vocabulary::MOTION, motion as u64, 0);
     if value == 0 {
         return line;
     }
-    word(line, words::VALUE).byte(b' ').signed(value)
+    word(line, vocabulary::VALUE).byte(b' ').signed(value)
 }
 
 fn variables(mut line: Line, values: [i32; 64], refused: bool) -> Line {
@@ -130,7 +130,7 @@ fn name(line: Line, variable: usize) -> Line {
     if FIXED_END <= variable {
         return gap(line).number(variable as u64);
     }
-    word(line, words::VARIABLE + variable)
+    word(line, vocabulary::VARIABLE + variable)
 }
 
 // What a variable holds at the start, where no VA line says otherwise. Variables 3; Refusals 23.
@@ -149,7 +149,7 @@ fn at_start(variable: usize, refused: bool) -> i32 {
 
 // The first records, and what else of the buffer is changed.
 fn recorded(mut line: Line, records: &[u8], count: usize) -> Line {
-    line = part(line, words::RECORDS, count as u64, 0);
+    line = part(line, vocabulary::RECORDS, count as u64, 0);
     for i in 0..SHOWN {
         if i < count {
             line = record(line, events::script::event_at(records, i));
@@ -167,12 +167,12 @@ fn record(mut line: Line, record: Event) -> Line {
     line = line.byte(b' ').number(record.kind as u64);
     line = line.byte(b' ').number(record.number as u64);
     line = line.byte(b' ').signed(record.value);
-    part(line, words::ZEROS, record.zeros as u64, 0).byte(b']')
+    part(line, vocabulary::ZEROS, record.zeros as u64, 0).byte(b']')
 }
 
 // How many bytes are no longer the filler, where there are any.
 pub fn changed(line: Line, values: &[u8]) -> Line {
-    part(line, words::CHANGED, count(values), 0)
+    part(line, vocabulary::CHANGED, count(values), 0)
 }
 
 fn count(values: &[u8]) -> u64 {

@@ -3,7 +3,7 @@
 // What is made is put on a page. A page that is full is broken, and stays so: something did not fit, or a line said something wrong.
 ghost use Rattle.std.specs.Prelude.{◌<◌, length};
 
-use crate::words;
+use crate::vocabulary;
 use parts::{Line, Page, writing};
 use scripts::{BAD_FORM, BIG_NUMBER};
 
@@ -90,7 +90,7 @@ pub fn kind(line: &[u8]) -> usize {
     if word.len() == 0 {
         return SILENT;
     }
-    words::kind(word)
+    vocabulary::kind(word)
 }
 
 pub fn is_case(line: &[u8]) -> bool {
@@ -210,7 +210,7 @@ fn add_times(page: &mut Page, held: usize, line: &[u8], times: u64, of_events: b
         if of_events {
             return repeat(page, held, said(kind, rest(line)), times);
         }
-        return unless(kind == words::KINDS, held);
+        return unless(kind == vocabulary::KINDS, held);
     }
     if of_events {
         return held;
@@ -333,7 +333,7 @@ fn edit(image: &mut Page, held: usize, rest: &[u8]) -> usize {
 
 // The image takes its text's place.
 fn translate(text: &mut Page, held: usize) -> usize {
-    let mut image = io::large_buffer();
+    let mut image = writing::page();
     let answer = bench::translate(writing::held_on(text, held), &mut image);
     if answer.number != 0 {
         return BROKEN;

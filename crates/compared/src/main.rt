@@ -5,10 +5,13 @@
 mod answers;
 mod described;
 mod input;
-mod words;
+mod vocabulary;
 
-use libc::{STDIN_FILENO, STDOUT_FILENO};
 use parts::{Line, writing};
+use std::io::{self, Read, Write};
+
+// As much of the input is read.
+const ROOM: u64 = 65536;
 
 // How many cases there were, and how many of them agree.
 #[derive(Clone, Copy)]
@@ -36,41 +39,41 @@ fn one_more(count: u64, counts: bool) -> u64 {
     count
 }
 
-fn write(line: Line) {
+fn write<W: Write>(output: &mut W, line: Line) -> io::Result<()> {
     let bytes = line.bytes;
-    io::write_all(STDOUT_FILENO, writing::held_in(&bytes, line.held));
+    output.write_all(writing::held_in(&bytes, line.held))
 }
 
 // Writes what is said of a case.
-fn say(name: &[u8], said: usize) {
-    io::write_all(STDOUT_FILENO, name);
-    write(words::put(Line::empty(), said).end());
+fn say<W: Write>(output: &mut W, name: &[u8], said: usize) -> io::Result<()> {
+    output.write_all(name)?;
+    write(output, vocabulary::put(Line::empty(), said).end())
 }
 
 // Writes the line of a case, and answers whether it agrees. What was got is told where it does not.
-fn told(name: &[u8], got: Line, wanted: &[u8]) -> bool {
+fn told<W: Write>(output: &mut W, name: &[u8], got: Line, wanted: &[u8]) -> io::Result<bool> {
     let bytes = got.bytes;
     if parts::same(writing::held_in(&bytes, got.held), wanted) {
-        say(name, words::AS_EXPECTED);
-        return true;
+        say(output, name, vocabulary::AS_EXPECTED)?;
+        return Ok(true);
     }
-    say(name, words::NOT_AS_EXPECTED);
-    write(got.end());
-    false
+    say(output, name, vocabulary::NOT_AS_EXPECTED)?;
+    write(output, got.end())?;
+    Ok(false)
 }
 
 // Tries the case whose head stands at a place of the input: its text and events, its call, and the answer, which stands on the line behind.
-fn tried(input: &[u8], head: input::Span) -> bool {
+fn tried<W: Write>(output: &mut W, input: &[u8], head: input::Span) -> io::Result<bool> {
     let name = input::rest(input::line(input, head));
     let call = input::call(input, head.next);
     let gives = input::place_or_end(input, call.next);
     let wanted = input::line(input, gives);
     if !input::is_answer(wanted) | !input::is_end(input, gives.next) {
-        say(name, words::NOT_TRIED);
-        return false;
+        say(output, name, vocabulary::NOT_TRIED)?;
+        return Ok(false);
     }
     let got = answered(input, head.next, input::line(input, call));
-    told(name, got, input::rest(wanted))
+    told(output, name, got, input::rest(wanted))
 }
 
 // The answer to the call of the case that starts at a place of the input.
@@ -90,7 +93,7 @@ fn answered(input: &[u8], start: usize, call: &[u8]) -> Line {
 }
 
 // Tries every case.
-fn tally(input: &[u8]) -> Count {
+fn tally<W: Write>(output: &mut W, input: &[u8]) -> io::Result<Count> {
     let mut count = Count {
         agreeing: 0,
         all: 0,
@@ -99,18 +102,19 @@ fn tally(input: &[u8]) -> Count {
     while at < input.len() {
         let head = input::place(input, at);
         if input::is_case(input::line(input, head)) {
-            count = count.with(tried(input, head));
+            count = count.with(tried(output, input, head)?);
         }
         at = head.next;
     }
-    count
+    Ok(count)
 }
 
-fn main() {
-    let mut room = io::large_buffer();
-    let size = io::read_full(STDIN_FILENO, &mut room);
-    let count = tally(parts::front(&room, size));
+fn main(rt: HostRuntime) -> io::Result<()> {
+    let mut input = Vec::new(rt.alloc());
+    rt.stdin().take(ROOM).read_to_end(&mut input)?;
+    let mut output = rt.stdout();
+    let count = tally(&mut output, &input)?;
     let mut line = Line::empty().number(count.agreeing);
-    line = words::put(line, words::OF).number(count.all);
-    write(words::put(line, words::AGREE).end());
+    line = vocabulary::put(line, vocabulary::OF).number(count.all);
+    write(&mut output, vocabulary::put(line, vocabulary::AGREE).end())
 }

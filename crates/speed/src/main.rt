@@ -8,8 +8,9 @@ mod build;
 mod sums;
 
 use comparing::Compared;
-use libc::{STDERR_FILENO, STDOUT_FILENO};
 use settings::Settings;
+use std::env::{Env, FillError};
+use std::io;
 
 const LONGEST_IMAGE: usize = 5008;
 
@@ -238,33 +239,44 @@ fn repeat(task: u8, times: u64) -> u64 {
     on_text(times, size(task))
 }
 
-fn tell_usage() {
-    io::write_all(
-        STDERR_FILENO,
-        b"usage: speed translate|half|quarter|check|list|run|calls|compare|settings N\n",
-    );
+fn tell_usage(rt: &impl Eprint) -> io::Result<()> {
+    eprintln!(rt; "usage: speed translate|half|quarter|check|list|run|calls|compare|settings N")
 }
 
-fn start(task: u8, times: scripts::Number) {
-    if (os::arg_count() != WORDS) | (task == NOTHING) | (times.fault != scripts::NO_FAULT) {
-        tell_usage();
-        return;
+// The program was started with a word of this number, its own name's being 0.
+fn is_given(rt: &impl Env, number: usize) -> bool {
+    let mut word = [0u8; WORD];
+    match rt.arg(number, &mut word) {
+        Err(FillError::NotPresent) => false,
+        _ => true,
+    }
+}
+
+// The length of the word of this number, which is put to the start of the room: 0 where there is none, and where it is longer than the room.
+fn read_word(rt: &impl Env, number: usize, room: &mut [u8]) -> usize {
+    rt.arg(number, room).unwrap_or(0)
+}
+
+fn start<R: Env + Print + Eprint>(rt: &R, task: u8, times: scripts::Number) -> io::Result<()> {
+    let right_words = is_given(rt, WORDS - 1) & !is_given(rt, WORDS);
+    if !right_words | (task == NOTHING) | (times.fault != scripts::NO_FAULT) {
+        return tell_usage(rt);
     }
     let sum = repeat(task, times.size);
     if sums::MODULUS <= sum {
-        io::write_all(STDOUT_FILENO, b"refused ");
+        print!(rt; "refused ")?;
     }
-    io::print_decimal(STDOUT_FILENO, sum % sums::MODULUS);
-    io::write_all(STDOUT_FILENO, b"\n");
+    println!(rt; "{}", sum % sums::MODULUS)
 }
 
-fn main() {
+fn main(rt: HostRuntime) -> io::Result<()> {
     let mut name = [0u8; WORD];
     let mut times = [0u8; WORD];
-    let n = os::arg(1, &mut name);
-    let m = os::arg(2, &mut times);
+    let n = read_word(&rt, 1, &mut name);
+    let m = read_word(&rt, 2, &mut times);
     start(
+        &rt,
         task(parts::front(&name, n)),
         scripts::digits(parts::front(&times, m)),
-    );
+    )
 }
