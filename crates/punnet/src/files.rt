@@ -1,4 +1,6 @@
 // Files that are read, and what is told of files and words that are wrong.
+ghost use Rattle.std.specs.Io.{ReadsAtMost};
+
 use crate::commands::{ACCEPTED, TROUBLE};
 use crate::{Contents, Facts, paths, seen};
 use parts::{Line, writing};
@@ -125,7 +127,9 @@ pub fn open(rt: &HostRuntime, path: &[u8]) -> io::Result<File> {
 }
 
 // Reads until the room is full or the file is at its end, and answers how many bytes there were. A read that fails is no end.
-pub fn fill<R: Read>(file: &mut R, room: &mut [u8]) -> io::Result<usize> {
+pub fn fill<R: Read>(file: &mut R, room: &mut [u8]) -> io::Result<usize>
+    ensures { ReadsAtMost result room.new }
+{
     let mut length = 0;
     for _ in 0..room.len() {
         let count = file.read(&mut room[length..])?;

@@ -264,7 +264,7 @@ fn remove(rt: &HostRuntime, part: &[u8]) {
     }
 }
 
-// The same. Where that fails it is told, and what was there stays.
+// Puts a file that is being written in the place of the one that is meant. Where that fails it is told, and what was there stays.
 fn replace(rt: &HostRuntime, file: File, part: &[u8], path: &[u8], bytes: &[u8]) -> bool {
     match put_in_place(rt, file, part, path, bytes) {
         Ok(()) => true,

@@ -40,12 +40,9 @@ pub fn is_dashed(path: &[u8]) -> bool {
 // How many bytes of a path lead to its folder, the last slash among them.
 pub fn folder_length(path: &[u8]) -> usize {
     let mut folder: usize = 0;
-    let mut i: usize = 0;
-    while i < path.len() {
-        let b = path[i];
-        i += 1;
-        if b == b'/' {
-            folder = i;
+    for i in 0..path.len() {
+        if path[i] == b'/' {
+            folder = i + 1;
         }
     }
     folder
