@@ -23,6 +23,14 @@ pub fn argument(rt: &HostRuntime, i: usize, word: &mut Name) -> usize {
     }
 }
 
+// The same with one of two numbers.
+pub fn argument_at(rt: &HostRuntime, second: bool, i: usize, j: usize, word: &mut Name) -> usize {
+    if second {
+        return argument(rt, j, word);
+    }
+    argument(rt, i, word)
+}
+
 // Whether there is an argument, however long.
 fn is_there(rt: &HostRuntime, i: usize) -> bool {
     let mut first = [0u8; 1];
@@ -37,14 +45,6 @@ pub fn count(rt: &HostRuntime) -> usize {
         }
     }
     usize::MAX
-}
-
-// The same with one of two numbers.
-pub fn argument_at(rt: &HostRuntime, second: bool, i: usize, j: usize, word: &mut Name) -> usize {
-    if second {
-        return argument(rt, j, word);
-    }
-    argument(rt, i, word)
 }
 
 // The option behind the command, if there is one.
