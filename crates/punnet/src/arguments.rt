@@ -1,4 +1,6 @@
 // The arguments of the program: a command, an option behind it if wanted, and what it works on.
+ghost use Rattle.std.specs.Prelude.{◌≤◌};
+
 use crate::paths;
 use crate::paths::Name;
 use std::env::{Env, FillError};
@@ -15,7 +17,9 @@ pub const TEXTS: u32 = 15;
 pub const NO_OPTION: u32 = 29;
 
 // Puts an argument into an array, and answers its length; one that is too long for a name fills the array, and names no file.
-pub fn argument(rt: &HostRuntime, i: usize, word: &mut Name) -> usize {
+pub fn argument(rt: &HostRuntime, i: usize, word: &mut Name) -> usize
+    ensures { result ≤ 4096 }
+{
     match rt.arg(i, word) {
         Ok(length) => length,
         Err(FillError::TooLong) => paths::PATH_MAX,

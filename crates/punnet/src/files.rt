@@ -1,4 +1,5 @@
 // Files that are read, and what is told of files and words that are wrong.
+ghost use Rattle.std.specs.Prelude.{◌≤◌, length};
 ghost use Rattle.std.specs.Io.{ReadsAtMost};
 
 use crate::commands::{ACCEPTED, TROUBLE};
@@ -69,7 +70,9 @@ fn fail(rt: &HostRuntime, what: &[u8], error: &io::Error) {
 }
 
 // Writes what is said of an error, and answers how long that is.
-fn put_error(room: &mut [u8], error: &io::Error) -> usize {
+fn put_error(room: &mut [u8], error: &io::Error) -> usize
+    ensures { result ≤ length room.old }
+{
     let length = room.len();
     let mut rest = room;
     let _ = write!(rest, "{error}");

@@ -1,5 +1,7 @@
 // Files that are written, whole or not at all. What must not be replaced is tested before anything is read: a link is followed and stays,
 // only a plain file is replaced, and, unless that is asked for, only one of the kind that is written; a text, a list or settings replace none.
+ghost use Rattle.std.specs.Prelude.{◌<◌, ◌≤◌, ◌↔◌, IsTrue};
+
 use crate::arguments::NO_OPTION;
 use crate::commands::ACCEPTED;
 use crate::{Facts, Part, commands, files, given, paths, seen};
@@ -169,7 +171,9 @@ fn may_replace_there(
 }
 
 // Whether a byte continues a character.
-fn continues(b: u8) -> bool {
+fn continues(b: u8) -> bool
+    ensures { IsTrue result ↔ (128 ≤ b) × (b < 192) }
+{
     (0x80 <= b) & (b < 0xc0)
 }
 

@@ -1,4 +1,6 @@
 // Names of files, as the system takes them.
+ghost use Rattle.std.specs.Prelude.{◌≡◌, ◌≤◌, ◌↔◌, ◌∷◌, [], length, IfOk, IsTrue};
+
 use parts::{Page, writing};
 use std::path::PathBuf;
 use std::{fs, io, str};
@@ -22,7 +24,9 @@ pub fn of_name<'a>(name: &'a Name, length: usize) -> &'a [u8] {
 }
 
 // A name that means standard input or output.
-pub fn is_dash(path: &[u8]) -> bool {
+pub fn is_dash(path: &[u8]) -> bool
+    ensures { IsTrue result ↔ (path.now ≡ 45 ∷ []) }
+{
     if path.len() != 1 {
         return false;
     }
@@ -38,7 +42,9 @@ pub fn is_dashed(path: &[u8]) -> bool {
 }
 
 // How many bytes of a path lead to its folder, the last slash among them.
-pub fn folder_length(path: &[u8]) -> usize {
+pub fn folder_length(path: &[u8]) -> usize
+    ensures { result ≤ length path.now }
+{
     let mut folder: usize = 0;
     for i in 0..path.len() {
         if path[i] == b'/' {
@@ -49,7 +55,9 @@ pub fn folder_length(path: &[u8]) -> usize {
 }
 
 // A path as std takes it, which is UTF-8.
-pub fn text<'a>(path: &'a [u8]) -> io::Result<&'a str> {
+pub fn text<'a>(path: &'a [u8]) -> io::Result<&'a str>
+    ensures { IfOk result (λ text. text.now ≡ path.now) }
+{
     match str::from_utf8(path) {
         Ok(text) => Ok(text),
         Err(_) => Err(io::Error::from(io::ErrorKind::InvalidFilename)),

@@ -1,4 +1,6 @@
 // What the system knows of a file.
+ghost use Rattle.std.specs.Prelude.{◌≡◌, ◌↔◌, IsTrue, IsOkAnd};
+
 use crate::{Facts, paths};
 use std::fs::Metadata;
 use std::os::unix::fs::MetadataExt;
@@ -8,7 +10,9 @@ use std::{fs, io};
 const KIND: u32 = 4096;
 
 // The same file, by whatever names. Where nothing is seen by the second name, it is no file.
-pub fn same(a: Facts, b: io::Result<Facts>) -> bool {
+pub fn same(a: Facts, b: io::Result<Facts>) -> bool
+    ensures { IsTrue result ↔ IsOkAnd b (λ seen. (a.device ≡ seen.device) × (a.number ≡ seen.number)) }
+{
     match b {
         Ok(b) => (a.device == b.device) & (a.number == b.number),
         Err(_) => false,
