@@ -1,18 +1,17 @@
 // What the commands share: statuses, refusals, and pages.
 use crate::{files, given, outputs, paths};
 use bench::Ran;
-use libc::{STDERR_FILENO, STDOUT_FILENO};
 use parts::{Line, Page, writing};
 use telling::{state, trace};
 
-// What the tool ends with, as a digit.
-pub const ACCEPTED: u8 = b'0';
+// What the tool ends with.
+pub const ACCEPTED: u8 = 0;
 
-pub const REFUSED: u8 = b'1';
+pub const REFUSED: u8 = 1;
 
-pub const DIFFERENT: u8 = b'1';
+pub const DIFFERENT: u8 = 1;
 
-pub const TROUBLE: u8 = b'2';
+pub const TROUBLE: u8 = 2;
 
 // Commands on programs, and those that show a page, by their numbers in the table of words.
 pub const TRY: u32 = 1;
@@ -45,37 +44,39 @@ const NO_NUMBER: u32 = 1000;
 const MOST_LINES: u16 = 65535;
 
 // Writes what is done to standard output, and answers the status.
-pub fn done(bytes: &[u8]) -> u8 {
-    if io::write_all(STDOUT_FILENO, bytes) {
-        return ACCEPTED;
+pub fn done(rt: &HostRuntime, bytes: &[u8]) -> u8 {
+    match rt.write_all(bytes) {
+        Ok(()) => ACCEPTED,
+        Err(error) => {
+            files::trouble_with_output(rt, &error);
+            TROUBLE
+        }
     }
-    files::trouble_with_output();
-    TROUBLE
 }
 
 // Writes a page on a file that was written. Where that went to standard output, the page goes to standard error; where the page is lost,
 // it is told that the file is there.
-pub fn done_with(path: &[u8], page: &Page, held: usize) -> u8 {
+pub fn done_with(rt: &HostRuntime, path: &[u8], page: &Page, held: usize) -> u8 {
     let bytes = writing::held_on(page, held);
     if paths::is_dash(path) {
-        io::write_all(STDERR_FILENO, bytes);
+        files::tell_bytes(rt, bytes);
         return ACCEPTED;
     }
-    let status = done(bytes);
+    let status = done(rt, bytes);
     if (status != ACCEPTED) & (path.len() != 0) {
-        files::complain(path, PAGE_LOST);
+        files::complain(rt, path, PAGE_LOST);
     }
     status
 }
 
 // words, --version, help [COMMAND | NUMBER]
-pub fn show(command: u32, word: &[u8]) -> u8 {
+pub fn show(rt: &HostRuntime, command: u32, word: &[u8]) -> u8 {
     let mut page = writing::page();
     let held = put(&mut page, command, word);
     if held == 0 {
-        return files::complain(word, NO_HELP);
+        return files::complain(rt, word, NO_HELP);
     }
-    done(writing::held_on(&page, held))
+    done(rt, writing::held_on(&page, held))
 }
 
 fn put(page: &mut Page, command: u32, word: &[u8]) -> usize {
@@ -110,8 +111,8 @@ fn number_in(word: &[u8]) -> u32 {
 }
 
 // Tells a refusal of what was given.
-pub fn refuse(given: &[u8], told: Line) -> u8 {
-    files::tell_behind(given, told);
+pub fn refuse(rt: &HostRuntime, given: &[u8], told: Line) -> u8 {
+    files::tell_behind(rt, given, told);
     REFUSED
 }
 
@@ -124,27 +125,27 @@ pub fn start_values(image: &[u8]) -> [i32; 64] {
 }
 
 // Tells of a file what a line says, after one was written or none.
-pub fn tell_of(path: &[u8], line: Line, written: &[u8]) -> u8 {
+pub fn tell_of(rt: &HostRuntime, path: &[u8], line: Line, written: &[u8]) -> u8 {
     let mut page = writing::page();
     let named = telling::name(&mut page, path);
     let held = line.onto(&mut page, named);
-    done_with(written, &page, held)
+    done_with(rt, written, &page, held)
 }
 
 // Writes a file, and tells of it what a line says.
-pub fn keep(path: &[u8], bytes: &[u8], line: Line) -> u8 {
-    if !outputs::write(path, bytes) {
+pub fn keep(rt: &HostRuntime, path: &[u8], bytes: &[u8], line: Line) -> u8 {
+    if !outputs::write(rt, path, bytes) {
         return TROUBLE;
     }
-    tell_of(path, line, path)
+    tell_of(rt, path, line, path)
 }
 
 // Writes what was made of a program, and tells what its image holds; where no file is named it is shown, and nothing is told.
-pub fn keep_program(path: &[u8], bytes: &[u8], image: &[u8]) -> u8 {
+pub fn keep_program(rt: &HostRuntime, path: &[u8], bytes: &[u8], image: &[u8]) -> u8 {
     if path.len() == 0 {
-        return done(bytes);
+        return done(rt, bytes);
     }
-    keep(path, bytes, counts(bytes.len(), image))
+    keep(rt, path, bytes, counts(bytes.len(), image))
 }
 
 // How many bytes a file has, and the cells, labels and variables of the image that it is or gives.
@@ -157,7 +158,7 @@ pub fn counts(bytes: usize, image: &[u8]) -> Line {
 }
 
 // Tells how a run ended. Its records may be kept in a file.
-pub fn tell_end(to: &[u8], image: &[u8], ran: Ran) -> u8 {
+pub fn tell_end(rt: &HostRuntime, to: &[u8], image: &[u8], ran: Ran) -> u8 {
     let end = ran.state;
     let values = end.variables;
     let start = start_values(image);
@@ -171,11 +172,12 @@ pub fn tell_end(to: &[u8], image: &[u8], ran: Ran) -> u8 {
         &values,
         &start,
     );
-    done_with(to, &page, held)
+    done_with(rt, to, &page, held)
 }
 
 // Tells a run page by page: its turns, by the cells that they visit; or where none are visited only its records.
 pub fn tell_run(
+    rt: &HostRuntime,
     to: &[u8],
     text: &[u8],
     image: &[u8],
@@ -194,12 +196,12 @@ pub fn tell_run(
             break;
         }
         if trace::FULL <= held {
-            if done_with(to, &page, held) != ACCEPTED {
+            if done_with(rt, to, &page, held) != ACCEPTED {
                 return TROUBLE;
             }
             held = 0;
         }
         mark = trace::next(mark, text, image, events, records, visits, turns);
     }
-    done_with(to, &page, held)
+    done_with(rt, to, &page, held)
 }

@@ -27,44 +27,51 @@ fn of_entries<'a>(list: &'a Buffer, count: usize) -> &'a [u8] {
 }
 
 // Whether two files can both be read; else it is told.
-fn are_apart(first: &[u8], second: &[u8]) -> bool {
+fn are_apart(rt: &HostRuntime, first: &[u8], second: &[u8]) -> bool {
     if paths::is_dash(first) & paths::is_dash(second) {
-        files::complain(first, BOTH);
+        files::complain(rt, first, BOTH);
         return false;
     }
     true
 }
 
 // compare [-f] FIRST SECOND [LIST]
-pub fn compare_command(first: &[u8], second: &[u8], to: &[u8], force: bool) -> u8 {
-    if !are_apart(first, second) {
+pub fn compare_command(
+    rt: &HostRuntime,
+    first: &[u8],
+    second: &[u8],
+    to: &[u8],
+    force: bool,
+) -> u8 {
+    if !are_apart(rt, first, second) {
         return TROUBLE;
     }
-    if !outputs::may_replace(to, outputs::UNKNOWN, force, first, second) {
+    if !outputs::may_replace(rt, to, outputs::UNKNOWN, force, first, second) {
         return TROUBLE;
     }
     let mut room = [0u8; ROOM];
-    let read = files::read(first, &mut room);
+    let read = files::read(rt, first, &mut room);
     if read.status != ACCEPTED {
         return read.status;
     }
-    with_first(first, of_room(&room, read.length), second, to)
+    with_first(rt, first, of_room(&room, read.length), second, to)
 }
 
 // Reads the second file, and compares it with the records of the first.
-fn with_first(path: &[u8], first: &[u8], other: &[u8], to: &[u8]) -> u8 {
+fn with_first(rt: &HostRuntime, path: &[u8], first: &[u8], other: &[u8], to: &[u8]) -> u8 {
     let mut room = [0u8; ROOM];
-    let read = files::read(other, &mut room);
+    let read = files::read(rt, other, &mut room);
     if read.status != ACCEPTED {
         return read.status;
     }
     let none = &path[..0];
     let second = of_room(&room, read.length);
-    compare(path, first, none, other, second, none, to)
+    compare(rt, path, first, none, other, second, none, to)
 }
 
 // Compares two runs, each with its image where it has one, keeps the list where a file is named for it, and tells what differs.
 fn compare(
+    rt: &HostRuntime,
     path: &[u8],
     first: &[u8],
     first_image: &[u8],
@@ -73,19 +80,20 @@ fn compare(
     second_image: &[u8],
     to: &[u8],
 ) -> u8 {
-    let mut room = io::large_buffer();
+    let mut room = given::buffer();
     let compared = comparing::compare(first, second, &mut room);
     if compared.number == comparing::BAD_FIRST {
-        return commands::refuse(path, refusals::of_records(first, compared.number));
+        return commands::refuse(rt, path, refusals::of_records(first, compared.number));
     }
     if compared.number != 0 {
-        return commands::refuse(other, refusals::of_records(second, compared.number));
+        return commands::refuse(rt, other, refusals::of_records(second, compared.number));
     }
     let list = of_entries(&room, compared.entries);
-    if !outputs::write(to, list) {
+    if !outputs::write(rt, to, list) {
         return TROUBLE;
     }
     tell(
+        rt,
         first,
         first_image,
         second,
@@ -98,6 +106,7 @@ fn compare(
 
 // Tells the entries of a list page by page, and how many there are.
 fn tell(
+    rt: &HostRuntime,
     first: &[u8],
     first_image: &[u8],
     second: &[u8],
@@ -120,7 +129,7 @@ fn tell(
         )
         .onto(&mut page, held);
         if trace::FULL <= held {
-            if commands::done_with(to, &page, held) != ACCEPTED {
+            if commands::done_with(rt, to, &page, held) != ACCEPTED {
                 return TROUBLE;
             }
             held = 0;
@@ -132,7 +141,7 @@ fn tell(
         count,
     );
     held = ending.onto(&mut page, held);
-    judged(commands::done_with(to, &page, held), count)
+    judged(commands::done_with(rt, to, &page, held), count)
 }
 
 // The status of two runs with so many differences that were told.
@@ -144,21 +153,21 @@ fn judged(status: u8, count: usize) -> u8 {
 }
 
 // compare --texts OLD NEW EVENTS [TURNS]
-pub fn texts_command(old: &[u8], new: &[u8], events: &[u8], word: &[u8]) -> u8 {
-    if !are_apart(old, new) {
+pub fn texts_command(rt: &HostRuntime, old: &[u8], new: &[u8], events: &[u8], word: &[u8]) -> u8 {
+    if !are_apart(rt, old, new) {
         return TROUBLE;
     }
     let turns = given::turns(word);
-    let status = runs::turns_status(word, turns);
+    let status = runs::turns_status(rt, word, turns);
     if status != ACCEPTED {
         return status;
     }
-    let mut bytes = io::large_buffer();
-    let read = given::events(events, &mut bytes);
+    let mut bytes = given::buffer();
+    let read = given::events(rt, events, &mut bytes);
     if read.status != ACCEPTED {
         return read.status;
     }
-    on_events(old, new, given::of_buffer(&bytes, read.length), turns)
+    on_events(rt, old, new, given::of_buffer(&bytes, read.length), turns)
 }
 
 // A text that was not run.
@@ -174,14 +183,15 @@ fn not_recorded(status: u8) -> Recorded {
 
 // Reads a text and runs it on events. A refusal is told.
 fn record(
+    rt: &HostRuntime,
     path: &[u8],
     script: &[u8],
     turns: u64,
     image: &mut [u8],
     records: &mut [u8],
 ) -> Recorded {
-    let mut room = io::large_buffer();
-    let read = files::read(path, &mut room);
+    let mut room = given::buffer();
+    let read = files::read(rt, path, &mut room);
     if read.status != ACCEPTED {
         return not_recorded(read.status);
     }
@@ -189,7 +199,7 @@ fn record(
     let tried = tried::try_text(text, image, script, turns, records);
     let translated = tried.translated;
     if translated.number != 0 {
-        return not_recorded(texts::refuse(path, text, translated.line, translated.number));
+        return not_recorded(texts::refuse(rt, path, text, translated.line, translated.number));
     }
     let ran = tried.ran;
     Recorded {
@@ -202,20 +212,21 @@ fn record(
 }
 
 // Runs both texts on events, compares what they record, and tells how each ended.
-fn on_events(old: &[u8], new: &[u8], script: &[u8], turns: u64) -> u8 {
-    let mut image = io::large_buffer();
-    let mut records = io::large_buffer();
-    let first = record(old, script, turns, &mut image, &mut records);
+fn on_events(rt: &HostRuntime, old: &[u8], new: &[u8], script: &[u8], turns: u64) -> u8 {
+    let mut image = given::buffer();
+    let mut records = given::buffer();
+    let first = record(rt, old, script, turns, &mut image, &mut records);
     if first.status != ACCEPTED {
         return first.status;
     }
-    let mut other_image = io::large_buffer();
-    let mut other_records = io::large_buffer();
-    let second = record(new, script, turns, &mut other_image, &mut other_records);
+    let mut other_image = given::buffer();
+    let mut other_records = given::buffer();
+    let second = record(rt, new, script, turns, &mut other_image, &mut other_records);
     if second.status != ACCEPTED {
         return second.status;
     }
     let status = compare(
+        rt,
         old,
         runs::of_records(&records, first.records),
         given::of_buffer(&image, first.image),
@@ -227,19 +238,19 @@ fn on_events(old: &[u8], new: &[u8], script: &[u8], turns: u64) -> u8 {
     if status == TROUBLE {
         return status;
     }
-    if tell_end(old, first) != ACCEPTED {
+    if tell_end(rt, old, first) != ACCEPTED {
         return TROUBLE;
     }
-    if tell_end(new, second) != ACCEPTED {
+    if tell_end(rt, new, second) != ACCEPTED {
         return TROUBLE;
     }
     status
 }
 
 // Tells why a run of a text ended, and after how many turns.
-fn tell_end(path: &[u8], run: Recorded) -> u8 {
+fn tell_end(rt: &HostRuntime, path: &[u8], run: Recorded) -> u8 {
     let mut line = telling::part(Line::empty(), words::COLON);
     line = telling::words(line, words::END, run.reason as u32);
     line = telling::part_number(line, words::TURNS_TAKEN, run.turns);
-    commands::tell_of(path, line.end(), &path[..0])
+    commands::tell_of(rt, path, line.end(), &path[..0])
 }

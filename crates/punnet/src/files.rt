@@ -1,57 +1,101 @@
 // Files that are read, and what is told of files and words that are wrong.
+ghost use Rattle.std.specs.Prelude.{◌≤◌, length};
+ghost use Rattle.std.specs.Io.{ReadsAtMost};
+
 use crate::commands::{ACCEPTED, TROUBLE};
 use crate::{Contents, Facts, paths, seen};
-use libc::{STDERR_FILENO, STDIN_FILENO};
 use parts::{Line, writing};
+use std::fs::File;
+use std::io::{Read, Write};
+use std::{io, str};
 use telling::refusals;
 
+// Room for what the system says of an error.
+const ERROR: usize = 256;
+
+// Writes bytes to standard error. Where that fails there is nowhere to tell it.
+pub fn tell_bytes(rt: &HostRuntime, bytes: &[u8]) {
+    let _ = rt.stderr().write_all(bytes);
+}
+
 // Writes a line to standard error.
-pub fn tell(line: Line) {
+pub fn tell(rt: &HostRuntime, line: Line) {
     let bytes = line.bytes;
-    io::write_all(STDERR_FILENO, writing::held_in(&bytes, line.held));
+    tell_bytes(rt, writing::held_in(&bytes, line.held));
 }
 
 // The same behind what was given, a word or a file.
-pub fn tell_behind(given: &[u8], line: Line) {
+pub fn tell_behind(rt: &HostRuntime, given: &[u8], line: Line) {
     let mut page = writing::page();
     let held = telling::name(&mut page, given);
-    io::write_all(STDERR_FILENO, writing::held_on(&page, held));
-    tell(line);
+    tell_bytes(rt, writing::held_on(&page, held));
+    tell(rt, line);
 }
 
-fn tell_part(number: u32) {
-    tell(telling::part(Line::empty(), number));
+fn tell_part(rt: &HostRuntime, number: u32) {
+    tell(rt, telling::part(Line::empty(), number));
 }
 
 // Tells what is wrong with a word or a file that was given, and answers the status.
-pub fn complain(given: &[u8], number: u32) -> u8 {
-    tell_part(words::PUNNET);
-    tell_behind(given, refusals::of_use(number));
+pub fn complain(rt: &HostRuntime, given: &[u8], number: u32) -> u8 {
+    tell_part(rt, words::PUNNET);
+    tell_behind(rt, given, refusals::of_use(number));
     TROUBLE
 }
 
 // Tells which file, and what the system says of it.
-pub fn trouble(path: &[u8]) {
-    tell_part(words::PUNNET);
+pub fn trouble(rt: &HostRuntime, path: &[u8], error: &io::Error) {
+    tell_part(rt, words::PUNNET);
     let mut page = writing::page();
     let held = telling::name(&mut page, path);
-    os::fail(writing::held_on(&page, held));
+    fail(rt, writing::held_on(&page, held), error);
 }
 
 // Tells that standard output could not be written.
-pub fn trouble_with_output() {
-    tell_part(words::PUNNET);
+pub fn trouble_with_output(rt: &HostRuntime, error: &io::Error) {
+    tell_part(rt, words::PUNNET);
     let line = telling::part(Line::empty(), words::STANDARD_OUTPUT);
     let bytes = line.bytes;
-    os::fail(writing::held_in(&bytes, line.held));
+    fail(rt, writing::held_in(&bytes, line.held), error);
+}
+
+// Tells what failed, and what the system says.
+fn fail(rt: &HostRuntime, what: &[u8], error: &io::Error) {
+    let mut room = [0u8; ERROR];
+    let held = put_error(&mut room, error);
+    tell_bytes(rt, what);
+    tell_bytes(rt, b": ");
+    tell_bytes(rt, without_number(parts::front(&room, held)));
+    tell_bytes(rt, b"\n");
+}
+
+// Writes what is said of an error, and answers how long that is.
+fn put_error(room: &mut [u8], error: &io::Error) -> usize
+    ensures { result ≤ length room.old }
+{
+    let length = room.len();
+    let mut rest = room;
+    let _ = write!(rest, "{error}");
+    length.saturating_sub(rest.len())
+}
+
+// The system's own words, without the number that std puts behind them.
+fn without_number<'a>(said: &'a [u8]) -> &'a [u8] {
+    let Ok(text) = str::from_utf8(said) else {
+        return said;
+    };
+    match text.split_once(" (os error ") {
+        Some((words, _)) => words.as_bytes(),
+        None => said,
+    }
 }
 
 // What the system says of a file that is read; `-` is standard input.
-pub fn look(path: &[u8]) -> Facts {
+pub fn look(rt: &HostRuntime, path: &[u8]) -> io::Result<Facts> {
     if paths::is_dash(path) {
-        return seen::look_at(b"/dev/stdin");
+        return seen::look_at(rt, b"/dev/stdin");
     }
-    seen::look_at(path)
+    seen::look_at(rt, path)
 }
 
 // No contents, for a reason.
@@ -59,38 +103,43 @@ pub fn nothing(status: u8) -> Contents {
     Contents { length: 0, status }
 }
 
-// Reads a file, as much of it as there is room for.
-pub fn read(path: &[u8], room: &mut [u8]) -> Contents {
-    let mut file = STDIN_FILENO;
-    if !paths::is_dash(path) {
-        file = os::open_read(path);
+// Reads a file, as much of it as there is room for. What is wrong with it is told.
+pub fn read(rt: &HostRuntime, path: &[u8], room: &mut [u8]) -> Contents {
+    match fill_from(rt, path, room) {
+        Ok(length) => Contents {
+            length,
+            status: ACCEPTED,
+        },
+        Err(error) => {
+            trouble(rt, path, &error);
+            nothing(TROUBLE)
+        }
     }
-    if file < 0 {
-        trouble(path);
-        return nothing(TROUBLE);
-    }
-    let contents = fill(file, room);
-    if contents.status != ACCEPTED {
-        trouble(path);
-    }
-    libc::close(file);
-    contents
 }
 
-// Reads until the room is full or nothing comes. Where room is left the file has to be at its end: a read that fails is no end.
-pub fn fill(file: i32, room: &mut [u8]) -> Contents {
-    let length = io::read_full(file, room);
-    let mut status = ACCEPTED;
-    if length < room.len() {
-        status = status_at_end(file);
+fn fill_from(rt: &HostRuntime, path: &[u8], room: &mut [u8]) -> io::Result<usize> {
+    if paths::is_dash(path) {
+        return fill(&mut rt.stdin(), room);
     }
-    Contents { length, status }
+    fill(&mut open(rt, path)?, room)
 }
 
-fn status_at_end(file: i32) -> u8 {
-    let mut probe = [0u8; 1];
-    if libc::read(file, &mut probe) == 0 {
-        return ACCEPTED;
+// Opens a file that is read.
+pub fn open(rt: &HostRuntime, path: &[u8]) -> io::Result<File> {
+    File::open(rt, paths::text(path)?)
+}
+
+// Reads until the room is full or the file is at its end, and answers how many bytes there were. A read that fails is no end.
+pub fn fill<R: Read>(file: &mut R, room: &mut [u8]) -> io::Result<usize>
+    ensures { ReadsAtMost result room.new }
+{
+    let mut length = 0;
+    for _ in 0..room.len() {
+        let count = file.read(&mut room[length..])?;
+        if count == 0 {
+            break;
+        }
+        length += count;
     }
-    TROUBLE
+    Ok(length)
 }

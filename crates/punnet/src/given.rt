@@ -19,6 +19,10 @@ pub type Buffer = [u8; 65536];
 
 const LONG_FILE: u32 = 28;
 
+pub fn buffer() -> Buffer {
+    [0; 65536]
+}
+
 // The first bytes of a buffer.
 pub fn of_buffer<'a>(buffer: &'a Buffer, length: usize) -> &'a [u8] {
     parts::front(buffer, length)
@@ -45,31 +49,31 @@ pub fn turns(word: &[u8]) -> u64 {
 }
 
 // Reads the events that a run is given; no name and `-` mean none.
-pub fn events(path: &[u8], bytes: &mut Buffer) -> Contents {
+pub fn events(rt: &HostRuntime, path: &[u8], bytes: &mut Buffer) -> Contents {
     if (path.len() == 0) | paths::is_dash(path) {
         return files::nothing(ACCEPTED);
     }
-    script(path, bytes)
+    script(rt, path, bytes)
 }
 
 // Reads a file of events, a script or bytes. What is wrong with it is told.
-pub fn script(path: &[u8], bytes: &mut Buffer) -> Contents {
+pub fn script(rt: &HostRuntime, path: &[u8], bytes: &mut Buffer) -> Contents {
     let mut file = [0u8; ROOM];
-    let contents = files::read(path, &mut file);
+    let contents = files::read(rt, path, &mut file);
     if contents.status != ACCEPTED {
         return contents;
     }
     if contents.length == ROOM {
-        return files::nothing(files::complain(path, LONG_FILE));
+        return files::nothing(files::complain(rt, path, LONG_FILE));
     }
-    of_file(path, of_room(&file, contents.length), bytes)
+    of_file(rt, path, of_room(&file, contents.length), bytes)
 }
 
 fn of_room<'a>(room: &'a Room, length: usize) -> &'a [u8] {
     parts::front(room, length)
 }
 
-fn of_file(path: &[u8], file: &[u8], bytes: &mut Buffer) -> Contents {
+fn of_file(rt: &HostRuntime, path: &[u8], file: &[u8], bytes: &mut Buffer) -> Contents {
     let read = scripts::read(file, bytes);
     let length = read.length;
     let told = refusals::of_events(file, of_buffer(bytes, length), read.line, read.fault);
@@ -79,7 +83,7 @@ fn of_file(path: &[u8], file: &[u8], bytes: &mut Buffer) -> Contents {
             status: ACCEPTED,
         };
     }
-    files::nothing(commands::refuse(path, told))
+    files::nothing(commands::refuse(rt, path, told))
 }
 
 // Whether bytes are events that a run takes.

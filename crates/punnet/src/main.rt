@@ -19,6 +19,8 @@ mod tuned;
 
 use arguments::{FORCE, LONG_HELP, NO_OPTION, SHORT_HELP, TEXTS};
 use commands::{CHECK, LIST, RUN, TRANSLATE, TRY, VERSION, WORDS};
+use std::fs::File;
+use std::process::ExitCode;
 
 // How a file was read: how many bytes of the room it takes, and the status, which says whether it can be used.
 #[derive(Clone, Copy)]
@@ -37,17 +39,16 @@ pub struct Recorded {
     pub turns: u64,
 }
 
-// A file that is being written: the length of its name, and its descriptor.
-#[derive(Clone, Copy)]
+// A file that is being written: the length of its name, and the open file.
+#[derive(Drop)]
 pub struct Part {
     pub length: usize,
-    pub file: i32,
+    pub file: File,
 }
 
-// Whether there is a file, and whether it is a plain one; its permissions and owners; and the device and number that tell it from others.
+// Whether a file that is there is a plain one; its permissions and owners; and the device and number that tell it from others.
 #[derive(Clone, Copy)]
 pub struct Facts {
-    pub found: bool,
     pub plain: bool,
     pub mode: u32,
     pub owner: u32,
@@ -55,9 +56,6 @@ pub struct Facts {
     pub device: u64,
     pub number: u64,
 }
-
-// Where the status goes, as one digit: a descriptor that no file is opened on.
-const STATUS: i32 = 9;
 
 // Other commands, by their numbers in the table of words.
 const EVENTS: u32 = 6;
@@ -97,32 +95,33 @@ fn is_writing(command: u32) -> bool {
 }
 
 // Does what a command says with its arguments.
-fn work(command: u32, force: bool, a: &[u8], b: &[u8], c: &[u8], d: &[u8]) -> u8 {
+fn work(rt: &HostRuntime, command: u32, force: bool, a: &[u8], b: &[u8], c: &[u8], d: &[u8]) -> u8 {
     match command {
-        TRY => runs::try_command(a, b, c),
-        TRANSLATE => programs::make_file(command, a, b, outputs::IMAGE, force),
-        CHECK => programs::work_on(command, a, b, 0, b),
-        LIST => programs::make_file(command, a, b, outputs::UNKNOWN, force),
-        RUN => runs::run_command(command, a, b, c, d, force),
-        EVENTS => scripted::events_command(a, b, force),
-        COMPARE => comparisons::compare_command(a, b, c, force),
-        TEXTS => comparisons::texts_command(a, b, c, d),
-        SETTINGS => tuned::settings_command(a, b, force),
-        _ => commands::show(command, a),
+        TRY => runs::try_command(rt, a, b, c),
+        TRANSLATE => programs::make_file(rt, command, a, b, outputs::IMAGE, force),
+        CHECK => programs::work_on(rt, command, a, b, 0, b),
+        LIST => programs::make_file(rt, command, a, b, outputs::UNKNOWN, force),
+        RUN => runs::run_command(rt, command, a, b, c, d, force),
+        EVENTS => scripted::events_command(rt, a, b, force),
+        COMPARE => comparisons::compare_command(rt, a, b, c, force),
+        TEXTS => comparisons::texts_command(rt, a, b, c, d),
+        SETTINGS => tuned::settings_command(rt, a, b, force),
+        _ => commands::show(rt, command, a),
     }
 }
 
 // Reads the arguments of a command, the first of them behind its `-f` or `--texts`.
-fn with_arguments(command: u32, force: bool) -> u8 {
-    let mut first = io::buffer();
-    let mut second = io::buffer();
-    let mut third = io::buffer();
-    let mut fourth = io::buffer();
-    let a = arguments::argument_at(force, 2, 3, &mut first);
-    let b = arguments::argument_at(force, 3, 4, &mut second);
-    let c = arguments::argument_at(force, 4, 5, &mut third);
-    let d = arguments::argument_at(force, 5, 6, &mut fourth);
+fn with_arguments(rt: &HostRuntime, command: u32, force: bool) -> u8 {
+    let mut first = paths::name();
+    let mut second = paths::name();
+    let mut third = paths::name();
+    let mut fourth = paths::name();
+    let a = arguments::argument_at(rt, force, 2, 3, &mut first);
+    let b = arguments::argument_at(rt, force, 3, 4, &mut second);
+    let c = arguments::argument_at(rt, force, 4, 5, &mut third);
+    let d = arguments::argument_at(rt, force, 5, 6, &mut fourth);
     work(
+        rt,
         command,
         force,
         paths::of_name(&first, a),
@@ -133,17 +132,18 @@ fn with_arguments(command: u32, force: bool) -> u8 {
 }
 
 // A command with so many arguments and an option behind it, if that is one.
-fn with_option(command: u32, name: &[u8], count: usize, option: u32) -> u8 {
+fn with_option(rt: &HostRuntime, command: u32, name: &[u8], count: usize, option: u32) -> u8 {
     if (option == SHORT_HELP) | (option == LONG_HELP) {
-        return commands::show(HELP, name);
+        return commands::show(rt, HELP, name);
     }
     if option == NO_OPTION {
-        return files::complain(name, NO_OPTION);
+        return files::complain(rt, name, NO_OPTION);
     }
     if (option == TEXTS) & (command == COMPARE) {
-        return with_count(TEXTS, name, count, true);
+        return with_count(rt, TEXTS, name, count, true);
     }
     with_count(
+        rt,
         command,
         name,
         count,
@@ -152,11 +152,11 @@ fn with_option(command: u32, name: &[u8], count: usize, option: u32) -> u8 {
 }
 
 // The same, where that is so many as it takes, an option behind it or not.
-fn with_count(command: u32, name: &[u8], count: usize, option: bool) -> u8 {
+fn with_count(rt: &HostRuntime, command: u32, name: &[u8], count: usize, option: bool) -> u8 {
     if !takes(command, one_less_if(option, count)) {
-        return files::complain(name, command);
+        return files::complain(rt, name, command);
     }
-    with_arguments(command, option)
+    with_arguments(rt, command, option)
 }
 
 fn one_less_if(test: bool, count: usize) -> usize {
@@ -166,21 +166,20 @@ fn one_less_if(test: bool, count: usize) -> usize {
     if test { count - 1 } else { count }
 }
 
-fn command(name: &[u8], count: usize) -> u8 {
+fn command(rt: &HostRuntime, name: &[u8], count: usize) -> u8 {
     let command = words::number_for(words::COMMAND, name);
     if (command == 0) | (command == FORCE) | (command == TEXTS) {
-        return files::complain(name, commands::NO_COMMAND);
+        return files::complain(rt, name, commands::NO_COMMAND);
     }
-    with_option(command, name, count, arguments::option())
+    with_option(rt, command, name, count, arguments::option(rt))
 }
 
-fn start() -> u8 {
-    let mut word = io::buffer();
-    let length = arguments::argument(1, &mut word);
-    command(paths::of_name(&word, length), os::arg_count())
+fn start(rt: &HostRuntime) -> u8 {
+    let mut word = paths::name();
+    let length = arguments::argument(rt, 1, &mut word);
+    command(rt, paths::of_name(&word, length), arguments::count(rt))
 }
 
-fn main() {
-    let status = start();
-    io::write_all(STATUS, &[status]);
+fn main(rt: HostRuntime) -> ExitCode {
+    ExitCode::from(start(&rt))
 }

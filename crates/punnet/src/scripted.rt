@@ -4,21 +4,21 @@ use crate::{commands, given, outputs};
 use parts::Line;
 
 // events [-f] SCRIPT EVENTS
-pub fn events_command(path: &[u8], to: &[u8], force: bool) -> u8 {
-    if !outputs::may_replace(to, outputs::EVENTS, force, path, path) {
+pub fn events_command(rt: &HostRuntime, path: &[u8], to: &[u8], force: bool) -> u8 {
+    if !outputs::may_replace(rt, to, outputs::EVENTS, force, path, path) {
         return TROUBLE;
     }
-    let mut room = io::large_buffer();
-    let read = given::script(path, &mut room);
+    let mut room = given::buffer();
+    let read = given::script(rt, path, &mut room);
     if read.status != ACCEPTED {
         return read.status;
     }
-    keep(to, given::of_buffer(&room, read.length))
+    keep(rt, to, given::of_buffer(&room, read.length))
 }
 
-fn keep(to: &[u8], bytes: &[u8]) -> u8 {
+fn keep(rt: &HostRuntime, to: &[u8], bytes: &[u8]) -> u8 {
     let count = events::script::event_count(bytes) as u64;
     let colon = telling::part(Line::empty(), words::COLON);
     let line = telling::part_number(colon, words::EVENTS, count);
-    commands::keep(to, bytes, line.end())
+    commands::keep(rt, to, bytes, line.end())
 }

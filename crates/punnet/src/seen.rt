@@ -1,85 +1,37 @@
 // What the system knows of a file.
-ghost use Rattle.libc.specs.Io.{Ended};
+ghost use Rattle.std.specs.Prelude.{◌≡◌, ◌↔◌, IsTrue, IsOkAnd};
 
-use crate::paths::Name;
 use crate::{Facts, paths};
-use libc::types;
+use std::fs::Metadata;
+use std::os::unix::fs::MetadataExt;
+use std::{fs, io};
 
 // Permissions are below this; the kind of a file is above.
 const KIND: u32 = 4096;
 
-const PLAIN: u32 = libc::S_IFREG / KIND;
-
-// No file.
-pub fn nothing() -> Facts {
-    Facts {
-        found: false,
-        plain: false,
-        mode: 0,
-        owner: 0,
-        group: 0,
-        device: 0,
-        number: 0,
-    }
-}
-
-// The same file, by whatever names.
-pub fn same(a: Facts, b: Facts) -> bool {
-    a.found & b.found & (a.device == b.device) & (a.number == b.number)
-}
-
-fn blank() -> types::stat {
-    let unused = [0i64; 3];
-    let never = types::timespec {
-        tv_sec: 0,
-        tv_nsec: 0,
-    };
-    types::stat {
-        st_dev: 0,
-        st_ino: 0,
-        st_nlink: 0,
-        st_mode: 0,
-        st_uid: 0,
-        st_gid: 0,
-        __pad: 0,
-        st_rdev: 0,
-        st_size: 0,
-        st_blksize: 0,
-        st_blocks: 0,
-        st_atim: never,
-        st_mtim: never,
-        st_ctim: never,
-        __unused: unused,
-    }
-}
-
-fn told(status: i32, s: types::stat) -> Facts {
-    let mode = s.st_mode;
-    Facts {
-        found: status == 0,
-        plain: mode / KIND == PLAIN,
-        mode: mode % KIND,
-        owner: s.st_uid,
-        group: s.st_gid,
-        device: s.st_dev,
-        number: s.st_ino,
-    }
-}
-
-// What the system says of the file with this name, links followed. The call writes over `s`. Its proof is by hand, as no other function lends
-// a struct; so there is nothing else in it.
-fn look(name: &Name, mut s: types::stat) -> Facts
-    requires { Ended name.now }
+// The same file, by whatever names. Where nothing is seen by the second name, it is no file.
+pub fn same(a: Facts, b: io::Result<Facts>) -> bool
+    ensures { IsTrue result ↔ IsOkAnd b (λ seen. (a.device ≡ seen.device) × (a.number ≡ seen.number)) }
 {
-    let status = libc::stat(name, &mut s);
-    told(status, s)
+    match b {
+        Ok(b) => (a.device == b.device) & (a.number == b.number),
+        Err(_) => false,
+    }
 }
 
-// The same of a path. One that is too long for the system names no file: cut, it would name another.
-pub fn look_at(path: &[u8]) -> Facts {
-    if libc::PATH_MAX <= path.len() {
-        return nothing();
+fn told(found: &Metadata) -> Facts {
+    Facts {
+        plain: found.is_file(),
+        mode: found.mode() % KIND,
+        owner: found.uid(),
+        group: found.gid(),
+        device: found.dev(),
+        number: found.ino(),
     }
-    let name = paths::ended(path);
-    look(&name, blank())
+}
+
+// What the system says of the file with this path, links followed; or why it sees none.
+pub fn look_at(rt: &HostRuntime, path: &[u8]) -> io::Result<Facts> {
+    let found = fs::metadata(rt, paths::text(path)?)?;
+    Ok(told(&found))
 }

@@ -20,15 +20,15 @@ fn of_room<'a>(room: &'a Room, length: usize) -> &'a [u8] {
 }
 
 // settings [-f] FILE [NAME=VALUE ..], and settings [-f] OLD NEW [NAME=VALUE ..]
-pub fn settings_command(path: &[u8], second: &[u8], force: bool) -> u8 {
+pub fn settings_command(rt: &HostRuntime, path: &[u8], second: &[u8], force: bool) -> u8 {
     if tuned::is_pair(path) {
-        return files::complain(path, NO_FILE);
+        return files::complain(rt, path, NO_FILE);
     }
     let place = place_behind_first(force);
     if tuned::is_pair(second) {
-        return with_values(&path[..0], path, place, force);
+        return with_values(rt, &path[..0], path, place, force);
     }
-    with_values(path, second, telling::one_more(place), force)
+    with_values(rt, path, second, telling::one_more(place), force)
 }
 
 fn place_behind_first(force: bool) -> usize {
@@ -36,43 +36,43 @@ fn place_behind_first(force: bool) -> usize {
 }
 
 // Adds the argument at a place to what is asked for. What is wrong with it is told.
-fn with_argument(asked: Asked, i: usize) -> Asked {
-    let mut room = io::buffer();
-    let length = arguments::argument(i, &mut room);
+fn with_argument(rt: &HostRuntime, asked: Asked, i: usize) -> Asked {
+    let mut room = paths::name();
+    let length = arguments::argument(rt, i, &mut room);
     let word = paths::of_name(&room, length);
     let more = tuned::with_word(asked, word);
     if more.wrong != 0 {
-        files::complain(word, more.wrong);
+        files::complain(rt, word, more.wrong);
     }
     more
 }
 
 // What the arguments from a place on ask for, as far as nothing is wrong.
-fn asked_from(first: usize) -> Asked {
+fn asked_from(rt: &HostRuntime, first: usize) -> Asked {
     let mut asked = tuned::nothing();
-    for i in first..os::arg_count() {
+    for i in first..arguments::count(rt) {
         if asked.wrong != 0 {
             return asked;
         }
-        asked = with_argument(asked, i);
+        asked = with_argument(rt, asked, i);
     }
     asked
 }
 
 // Reads the values from a place among the arguments on. They are written to the new file, over those of the old one if there is one; where no
 // new one is named, the old one is shown.
-fn with_values(old: &[u8], new: &[u8], first: usize, force: bool) -> u8 {
-    let asked = asked_from(first);
+fn with_values(rt: &HostRuntime, old: &[u8], new: &[u8], first: usize, force: bool) -> u8 {
+    let asked = asked_from(rt, first);
     if asked.wrong != 0 {
         return TROUBLE;
     }
-    if !outputs::may_replace(new, outputs::UNKNOWN, force, old, old) {
+    if !outputs::may_replace(rt, new, outputs::UNKNOWN, force, old, old) {
         return TROUBLE;
     }
     if old.len() == 0 {
-        return make(new, asked);
+        return make(rt, new, asked);
     }
-    with_old(old, new, asked)
+    with_old(rt, old, new, asked)
 }
 
 // Whether a file is refused by this number. One with values that a fresh drive does not take can be written anew all the same: other values beside
@@ -81,32 +81,32 @@ fn is_refused(number: u8, new: &[u8]) -> bool {
     (number != 0) & ((number != settings::OUT_OF_RANGE) | (new.len() == 0))
 }
 
-fn with_old(old: &[u8], new: &[u8], asked: Asked) -> u8 {
-    let mut room = io::buffer();
-    let read = files::read(old, &mut room);
+fn with_old(rt: &HostRuntime, old: &[u8], new: &[u8], asked: Asked) -> u8 {
+    let mut room = paths::name();
+    let read = files::read(rt, old, &mut room);
     if read.status != ACCEPTED {
         return read.status;
     }
     let file = paths::of_name(&room, read.length);
     let number = settings::read(file, Settings::fresh()).number;
     if is_refused(number, new) {
-        return commands::refuse(old, refusals::of_settings(file, number));
+        return commands::refuse(rt, old, refusals::of_settings(file, number));
     }
     if new.len() == 0 {
-        return commands::tell_of(old, tuned::told(file), new);
+        return commands::tell_of(rt, old, tuned::told(file), new);
     }
-    make(new, tuned::over(file, asked))
+    make(rt, new, tuned::over(file, asked))
 }
 
 // Writes a settings file, and tells what a fresh drive gets by it.
-fn make(path: &[u8], asked: Asked) -> u8 {
+fn make(rt: &HostRuntime, path: &[u8], asked: Asked) -> u8 {
     let values = asked.settings;
     let which = asked.which;
     let mut room = [0u8; settings::LONGEST];
     let written = settings::write(values, which, &mut room);
     if written.number != 0 {
-        return commands::refuse(path, refusals::of_values(values, which, written.number));
+        return commands::refuse(rt, path, refusals::of_values(values, which, written.number));
     }
     let file = of_room(&room, written.length);
-    commands::keep(path, file, tuned::told(file))
+    commands::keep(rt, path, file, tuned::told(file))
 }
