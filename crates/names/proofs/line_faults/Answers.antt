@@ -1,5 +1,6 @@
 -- `line_faults` meets its contract. The loop's invariant: the faults of the lines that are left, over what the buffer has, give the whole.
 -- Assumes nothing.
+use borrow.Author.Rules.{rules}
 use lib.ListN.{length}
 use mathlib.Core.Path.{sym, ap, ◌∙◌}
 use Rattle.rows.proofs.Seeking.{long}
