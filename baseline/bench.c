@@ -1,4 +1,4 @@
-/* Translator, checker, lister, runner, comparer, and readers and writer of settings in plain C, for comparing times. Names are two bytes as a number, the first character the low one. */
+/* Translator, checker, lister, runner and comparer in plain C, for comparing times. Names are two bytes as a number, the first character the low one. */
 #include "bench.h"
 
 enum { BLANK, LABEL, DECLARED, ACTS };
@@ -793,57 +793,4 @@ struct compared compare(const u8 *first, u32 first_bytes, const u8 *second, u32 
     }
     c.entries = entries;
     return c;
-}
-
-/* Settings */
-
-static int in_ranges(struct settings g) {
-    return 1 <= g.a && 1 <= g.d && 1 <= g.vi && g.vi < g.vm && g.vm <= 2560000;
-}
-
-/* The value of the first pair with a number; what was given where there is none. */
-static i32 under(const u8 *file, u32 pairs, u32 v, i32 given) {
-    for (u32 i = 0; i < pairs; i++)
-        if (read2(file + 8 * i) == v) return (i32)read4(file + 8 * i + 4);
-    return given;
-}
-
-/* The reader of the editions 1 to `last`. */
-struct shown read_settings(u32 last, const u8 *file, u32 size, struct settings given) {
-    struct shown s = { 0, given };
-    if (size < 8 || 40 < size) { s.number = 41; return s; }
-    u32 edition = read2(file + size - 4), pairs = size / 8 - 1, before = 0;
-    if (edition < 1 || last < edition) { s.number = 42; return s; }
-    if (read4(file + size - 8) || read2(file + size - 2) != size || (edition == 1 ? size != 24 : size % 8 != 0)) { s.number = 43; return s; }
-    if (edition == 1)
-        s.settings = (struct settings){ (i32)read4(file), (i32)read4(file + 4), (i32)read4(file + 8), (i32)read4(file + 12) };
-    else {
-        for (u32 i = 0; i < pairs; i++) {
-            u32 v = read2(file + 8 * i);
-            if (v < 6 || 9 < v || read2(file + 8 * i + 2) || v <= before) { s.number = 43; return s; }
-            before = v;
-        }
-        s.settings = (struct settings){ under(file, pairs, 6, given.a), under(file, pairs, 7, given.d), under(file, pairs, 8, given.vi), under(file, pairs, 9, given.vm) };
-    }
-    if (!in_ranges(s.settings)) s = (struct shown){ 44, given };
-    return s;
-}
-
-static u8 *write_pair(u8 *at, u8 chosen, u32 v, i32 value) {
-    if (!chosen) return at;
-    write4(at, v);
-    write4(at + 4, (u32)value);
-    return at + 8;
-}
-
-struct written write_settings(struct settings g, struct chosen which, u8 *file, u32 room) {
-    struct written w = { 0 };
-    if ((which.a && g.a < 1) || (which.d && g.d < 1) || (which.vi && (g.vi < 1 || 2560000 < g.vi)) || (which.vm && (g.vm < 1 || 2560000 < g.vm))) { w.number = 44; return w; }
-    u32 length = 8 * (which.a + which.d + which.vi + which.vm) + 8;
-    if (room < length) { w.number = 45; return w; }
-    u8 *at = write_pair(write_pair(write_pair(write_pair(file, which.a, 6, g.a), which.d, 7, g.d), which.vi, 8, g.vi), which.vm, 9, g.vm);
-    write4(at, 0);
-    write4(at + 4, 2 + 65536 * length);
-    w.length = length;
-    return w;
 }

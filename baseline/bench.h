@@ -1,4 +1,4 @@
-/* The calls in plain C, and their answers. */
+/* The five calls in plain C, and their answers. */
 typedef unsigned char u8;
 typedef unsigned short u16;
 typedef unsigned int u32;
@@ -26,14 +26,6 @@ struct state {
     i32 value;
 };
 
-struct settings { i32 a, d, vi, vm; };
-
-struct chosen { u8 a, d, vi, vm; };
-
-struct shown { u8 number; struct settings settings; };
-
-struct written { u8 number; u32 length; };
-
 struct ran { u8 number; u32 index; u8 reason; u32 turns, records; struct state state; };
 
 struct translated translate(const u8 *text, u32 size, u8 *image, u32 room);
@@ -41,5 +33,3 @@ u8 check(const u8 *image, u32 size);
 struct listed list(const u8 *image, u32 size, u8 *text, u32 room);
 struct compared compare(const u8 *first, u32 first_bytes, const u8 *second, u32 second_bytes, u8 *list, u32 room);
 struct ran run(const u8 *image, u32 size, const u8 *events, u32 event_bytes, u32 budget, u8 *records, u32 room);
-struct shown read_settings(u32 last, const u8 *file, u32 size, struct settings given);
-struct written write_settings(struct settings g, struct chosen which, u8 *file, u32 room);

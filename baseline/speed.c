@@ -162,24 +162,6 @@ static u64 compare_times(u32 n) {
     return mixed_bytes(sum, entries, sizeof entries);
 }
 
-/* Settings by a number, and names of them, written and read back over the start values. */
-static u64 settings_times(u32 n) {
-    static const struct settings fresh = { 1000000, 1000000, 1000, 768000 };
-    u64 sum = 1;
-    while (n--) {
-        i32 low = sum % 1000;
-        struct settings g = { low + 1, low + 2, low + 1, low + 1001 };
-        struct chosen which = { sum % 2 == 0, sum / 2 % 2 == 0, sum / 4 % 2 == 0, sum / 8 % 2 == 0 };
-        u8 file[40] = { 0 };
-        struct written w = write_settings(g, which, file, sizeof file);
-        if (w.number) return refused(w.number);
-        struct shown s = read_settings(2, file, w.length, fresh);
-        if (s.number) return refused(s.number);
-        sum = mixed(mixed(mixed(mixed(mixed(sum, s.number), signless(s.settings.a)), signless(s.settings.d)), signless(s.settings.vi)), signless(s.settings.vm));
-    }
-    return sum;
-}
-
 static int same(const char *a, const char *b) {
     while (*a && *a == *b) a++, b++;
     return *a == *b;
@@ -196,7 +178,7 @@ static u64 on_image(const char *call, u32 n) {
 }
 
 int main(int count, char **words) {
-    static const char usage[] = "usage: speed translate|half|quarter|check|list|run|calls|compare|settings N\n";
+    static const char usage[] = "usage: speed translate|half|quarter|check|list|run|calls|compare N\n";
     char line[24];
     u32 n = 0, at = sizeof line;
     u64 sum;
@@ -211,7 +193,6 @@ int main(int count, char **words) {
     else if (good && same(words[1], "half")) sum = translate_times(n, put_late(BLOCKS / 2));
     else if (good && same(words[1], "quarter")) sum = translate_times(n, put_late(BLOCKS / 4));
     else if (good && same(words[1], "compare")) sum = compare_times(n);
-    else if (good && same(words[1], "settings")) sum = settings_times(n);
     else if (good && (same(words[1], "check") || same(words[1], "list") || same(words[1], "run") || same(words[1], "calls")))
         sum = on_image(words[1], n);
     else { write(2, usage, sizeof usage - 1); return 0; }

@@ -40,10 +40,6 @@ pub fn number(line: Line, n: u64) -> Line {
     line.byte(b' ').number(n)
 }
 
-pub fn signed(line: Line, z: i32) -> Line {
-    line.byte(b' ').signed(z)
-}
-
 // What stands before the number at i of a list: `before` at its start, and a comma from there on.
 fn separator(before: u8, start: usize, i: usize) -> u8 {
     if i == start { before } else { b',' }
@@ -105,7 +101,7 @@ fn motion(mut line: Line, handler: u16, hold: u32, motion: u8, value: i32) -> Li
     line = number(line, handler as u64);
     line = number(line, hold as u64);
     line = number(line, motion as u64);
-    signed(line, value)
+    line.byte(b' ').signed(value)
 }
 
 // Ends a line with a lent buffer as it is after the call: behind a space its bytes up to the last that is no filler, a full stop, and how many

@@ -6,7 +6,6 @@
 mod line;
 
 use parts::Line;
-use settings::Shown;
 use std::alloc::Global;
 use std::io::{self, BufReader, Read, Write};
 
@@ -28,22 +27,12 @@ const LIST: usize = 4;
 
 const COMPARE: usize = 5;
 
-const SETTINGS: usize = 6;
-
-// The size of the values that a settings file is read over, and the readers: the one of edition 1, and the one of both.
-const GIVEN: usize = 16;
-
-const FIRST_READER: usize = 1;
-
-const READER: usize = 2;
-
 // A request's header. Its numbers are, by kind:
 //   translate: the text's length, 0, the size of the image buffer, 0
 //   check: the image's length, 0, 0, 0
 //   run: the image's length, the events' length, the budget, the size of the record buffer
 //   list: the image's length, 0, the size of the text buffer, 0
 //   compare: the lengths of the first and the second records, the size of the list, 0
-//   settings: the file's length, the size of the given values, the reader, 0
 #[derive(Clone, Copy)]
 struct Header {
     kind: usize,
@@ -69,7 +58,7 @@ impl Header {
         (self.kind == TRANSLATE) | (self.kind == LIST)
     }
 
-    // The kind is one of the six, and each number that it does not use is 0.
+    // The kind is one of the five, and each number that it does not use is 0.
     fn is_of_a_kind(self) -> bool {
         if self.is_made() {
             return (self.n2 == 0) & (self.n4 == 0);
@@ -80,21 +69,12 @@ impl Header {
         if self.kind == COMPARE {
             return self.n4 == 0;
         }
-        if self.kind == SETTINGS {
-            return (self.n2 == GIVEN)
-                & ((self.n3 == FIRST_READER) | (self.n3 == READER))
-                & (self.n4 == 0);
-        }
         self.kind == RUN
     }
 
     // The size of the buffer that the call is lent.
     fn lent(self) -> usize {
-        if (self.kind == RUN) | (self.kind == SETTINGS) {
-            self.n4
-        } else {
-            self.n3
-        }
+        if self.kind == RUN { self.n4 } else { self.n3 }
     }
 
     // How long a part and a buffer may be.
@@ -164,24 +144,6 @@ fn answer_compare<W: Write>(
     line::contents(output, line, list)
 }
 
-fn answer_settings<W: Write>(output: &mut W, shown: Shown) -> io::Result<()> {
-    let settings = shown.settings;
-    let mut line = Line::empty().byte(b'S');
-    line = line::number(line, shown.number as u64);
-    line = line::signed(line, settings.a);
-    line = line::signed(line, settings.d);
-    line = line::signed(line, settings.vi);
-    line::end(output, line::signed(line, settings.vm))
-}
-
-// A settings file, read by one of the readers over the given values.
-fn read_settings(reader: u64, file: &[u8], given: &[u8]) -> Shown {
-    if reader == FIRST_READER as u64 {
-        return settings::read_first(file, settings::by_place(given));
-    }
-    settings::read(file, settings::by_place(given))
-}
-
 fn answer_run<W: Write>(
     output: &mut W,
     image: &[u8],
@@ -193,11 +155,11 @@ fn answer_run<W: Write>(
     line::contents(output, line::ran(Line::empty().byte(b'R'), ran), records)
 }
 
-// Makes the call of a request on its parts and on the buffer, and writes the answer. The number is a run's budget, or which reader is asked.
+// Makes the call of a request on its parts and on the buffer, and writes the answer.
 fn call<W: Write>(
     output: &mut W,
     kind: usize,
-    number: u64,
+    budget: u64,
     first: &[u8],
     second: &[u8],
     lent: &mut [u8],
@@ -214,10 +176,7 @@ fn call<W: Write>(
     if kind == COMPARE {
         return answer_compare(output, first, second, lent);
     }
-    if kind == SETTINGS {
-        return answer_settings(output, read_settings(number, first, second));
-    }
-    answer_run(output, first, second, number, lent)
+    answer_run(output, first, second, budget, lent)
 }
 
 fn call_with<W: Write>(

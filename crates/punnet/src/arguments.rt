@@ -6,13 +6,13 @@ use crate::paths::Name;
 use std::env::{Env, FillError};
 
 // Options, by their numbers in the table of words; one that is none, by the words for it.
-pub const SHORT_HELP: u32 = 11;
+pub const SHORT_HELP: u32 = 10;
 
-pub const LONG_HELP: u32 = 12;
+pub const LONG_HELP: u32 = 11;
 
-pub const FORCE: u32 = 14;
+pub const FORCE: u32 = 13;
 
-pub const TEXTS: u32 = 15;
+pub const TEXTS: u32 = 14;
 
 pub const NO_OPTION: u32 = 29;
 

@@ -24,9 +24,9 @@ pub const LIST: u32 = 4;
 
 pub const RUN: u32 = 5;
 
-pub const WORDS: u32 = 9;
+pub const WORDS: u32 = 8;
 
-pub const VERSION: u32 = 13;
+pub const VERSION: u32 = 12;
 
 // What is wrong with the use of a command.
 pub const NO_COMMAND: u32 = 26;

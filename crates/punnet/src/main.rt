@@ -1,5 +1,4 @@
-// The bench as a tool on files: programs are tried, translated, checked, listed and run, runs compared, and settings shown and written. `punnet
-// help` tells how.
+// The bench as a tool on files: programs are tried, translated, checked, listed and run, and runs compared. `punnet help` tells how.
 #![tactic(auto)]
 
 mod arguments;
@@ -15,7 +14,6 @@ mod runs;
 mod scripted;
 mod seen;
 mod texts;
-mod tuned;
 
 use arguments::{FORCE, LONG_HELP, NO_OPTION, SHORT_HELP, TEXTS};
 use commands::{CHECK, LIST, RUN, TRANSLATE, TRY, VERSION, WORDS};
@@ -62,9 +60,7 @@ const EVENTS: u32 = 6;
 
 const COMPARE: u32 = 7;
 
-const SETTINGS: u32 = 8;
-
-const HELP: u32 = 10;
+const HELP: u32 = 9;
 
 // Whether a command takes so many arguments, with the program's name and its own among them.
 fn takes(command: u32, count: usize) -> bool {
@@ -77,7 +73,6 @@ fn takes(command: u32, count: usize) -> bool {
         EVENTS => count == 4,
         COMPARE => (4 <= count) & (count <= 5),
         TEXTS => (5 <= count) & (count <= 6),
-        SETTINGS => (3 <= count) & (count <= 8),
         WORDS => count == 2,
         VERSION => count == 2,
         _ => count <= 3,
@@ -91,7 +86,6 @@ fn is_writing(command: u32) -> bool {
         | (command == RUN)
         | (command == EVENTS)
         | (command == COMPARE)
-        | (command == SETTINGS)
 }
 
 // Does what a command says with its arguments.
@@ -105,7 +99,6 @@ fn work(rt: &HostRuntime, command: u32, force: bool, a: &[u8], b: &[u8], c: &[u8
         EVENTS => scripted::events_command(rt, a, b, force),
         COMPARE => comparisons::compare_command(rt, a, b, c, force),
         TEXTS => comparisons::texts_command(rt, a, b, c, d),
-        SETTINGS => tuned::settings_command(rt, a, b, force),
         _ => commands::show(rt, command, a),
     }
 }

@@ -1,5 +1,5 @@
 // Files that are written, whole or not at all. What must not be replaced is tested before anything is read: a link is followed and stays,
-// only a plain file is replaced, and, unless that is asked for, only one of the kind that is written; a text, a list or settings replace none.
+// only a plain file is replaced, and, unless that is asked for, only one of the kind that is written; a text or a list, which no byte tells, replaces none.
 ghost use Rattle.std.specs.Prelude.{◌<◌, ◌≤◌, ◌↔◌, IsTrue};
 
 use crate::arguments::NO_OPTION;

@@ -103,7 +103,7 @@ impl Number {
         NO_FAULT
     }
 
-    pub fn fault_of_value(self) -> u8 {
+    fn fault_of_value(self) -> u8 {
         if self.negative {
             if MOST_BELOW < self.size {
                 return BIG_NUMBER;

@@ -1,7 +1,6 @@
 // The programs that are measured, and as many events as a run takes, byte by byte.
 use comparing::Compared;
 use events::Event;
-use settings::{Chosen, Settings};
 
 // The largest programs are made of blocks of fourteen lines: eight statements and six declarations. In a block # stands for its character, @ and
 // % for those of blocks further on. Its ninth line is one of four, by the block's number. A variable counts up, an output is set, an input passes
@@ -268,24 +267,4 @@ pub fn records(other: bool) -> Records {
         records[at] = record_byte(at / events::script::SIZE, at % events::script::SIZE, other);
     }
     records
-}
-
-// Settings by a number, and names of them. Chosen or not, they keep the ranges beside the start values.
-pub fn tuning(n: u64) -> Settings {
-    let low = n % 1000;
-    Settings {
-        a: (low + 1) as i32,
-        d: (low + 2) as i32,
-        vi: (low + 1) as i32,
-        vm: (low + 1001) as i32,
-    }
-}
-
-pub fn chosen(n: u64) -> Chosen {
-    Chosen {
-        a: n % 2 == 0,
-        d: n / 2 % 2 == 0,
-        vi: n / 4 % 2 == 0,
-        vm: n / 8 % 2 == 0,
-    }
 }

@@ -1,14 +1,13 @@
-// Repeats one of the bench's calls, and writes a checksum of the answers and of the buffer that the call fills or reads. The arguments are
+// Repeats one of the bench's five calls, and writes a checksum of the answers and of the buffer that the call fills or reads. The arguments are
 // what is repeated, and how many times: `translate` takes the largest program with its names declared behind all statements, `half` and
-// `quarter` so much of it; `check`, `list` and `run` take the largest program, `calls` runs one that calls and returns, `compare` takes as
-// many records as there may be, and `settings` writes a file of settings and reads it back. A call that is refused is the last, and its number is written in place of the sum.
+// `quarter` so much of it; `check`, `list` and `run` take the largest program, `calls` runs one that calls and returns, and `compare` takes as
+// many records as there may be. A call that is refused is the last, and its number is written in place of the sum.
 #![tactic(auto)]
 
 mod build;
 mod sums;
 
 use comparing::Compared;
-use settings::Settings;
 use std::env::{Env, FillError};
 use std::io;
 
@@ -43,8 +42,6 @@ const LIST: u8 = 7;
 
 const COMPARE: u8 = 8;
 
-const SETTINGS: u8 = 9;
-
 fn task(word: &[u8]) -> u8 {
     if parts::same(word, b"translate") {
         return TRANSLATE;
@@ -69,9 +66,6 @@ fn task(word: &[u8]) -> u8 {
     }
     if parts::same(word, b"compare") {
         return COMPARE;
-    }
-    if parts::same(word, b"settings") {
-        return SETTINGS;
     }
     NOTHING
 }
@@ -153,31 +147,6 @@ fn on_records(times: u64) -> u64 {
     compare(times, &first, &second, &mut list)
 }
 
-// A file is written and read back. Its names and values go by the sum of those before.
-fn tuned(sum: u64) -> u64 {
-    let mut file = [0u8; settings::LONGEST];
-    let written = settings::write(build::tuning(sum), build::chosen(sum), &mut file);
-    if written.number != 0 {
-        return sums::refused(written.number);
-    }
-    let shown = settings::read(parts::front(&file, written.length), Settings::fresh());
-    if shown.number != 0 {
-        return sums::refused(shown.number);
-    }
-    sums::shown(sum, shown)
-}
-
-fn on_settings(times: u64) -> u64 {
-    let mut sum = FIRST_SUM;
-    for _ in 0..times {
-        sum = tuned(sum);
-        if sums::MODULUS <= sum {
-            return sum;
-        }
-    }
-    sum
-}
-
 // The sum of so many calls on the image of a text, which is made once before.
 fn on_image(task: u8, times: u64, text: &[u8], events: &[u8]) -> u64 {
     let mut room = [0u8; LONGEST_IMAGE];
@@ -230,9 +199,6 @@ fn repeat(task: u8, times: u64) -> u64 {
     if task == COMPARE {
         return on_records(times);
     }
-    if task == SETTINGS {
-        return on_settings(times);
-    }
     if (task == CHECK) | (task == LIST) | (task == RUN) {
         return on_largest(task, times);
     }
@@ -240,7 +206,7 @@ fn repeat(task: u8, times: u64) -> u64 {
 }
 
 fn tell_usage(rt: &impl Eprint) -> io::Result<()> {
-    eprintln!(rt; "usage: speed translate|half|quarter|check|list|run|calls|compare|settings N")
+    eprintln!(rt; "usage: speed translate|half|quarter|check|list|run|calls|compare N")
 }
 
 // The program was started with a word of this number, its own name's being 0.

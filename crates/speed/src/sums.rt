@@ -1,7 +1,6 @@
 // Checksums: each number is mixed into the sum of those before it.
 use bench::{Checked, Listed, Ran, State, StatePlace, Translated};
 use comparing::Compared;
-use settings::Shown;
 
 // Every sum is below this.
 pub const MODULUS: u64 = 4294967291;
@@ -63,15 +62,6 @@ pub fn listed(start: u64, answer: Listed) -> u64 {
 pub fn compared(start: u64, answer: Compared) -> u64 {
     let sum = mixed(start, answer.number as u64);
     mixed(sum, answer.entries as u64)
-}
-
-pub fn shown(start: u64, answer: Shown) -> u64 {
-    let values = answer.settings;
-    let mut sum = mixed(start, answer.number as u64);
-    sum = signed(sum, values.a);
-    sum = signed(sum, values.d);
-    sum = signed(sum, values.vi);
-    signed(sum, values.vm)
 }
 
 pub fn ran(start: u64, answer: Ran) -> u64 {

@@ -30,11 +30,6 @@ const EMPTY: u32 = 51;
 
 pub const EDITION: u32 = 52;
 
-// The length of a settings file that is too short or too long. From so many bytes on it is not told: no more of a file is read.
-pub const LENGTH: u32 = 60;
-
-const MOST_READ: usize = 4096;
-
 // What is wrong with records, beside zeros that are not 0.
 const MANY_RECORDS: u32 = 57;
 
@@ -42,12 +37,8 @@ const PART_OF_A_RECORD: u32 = 58;
 
 const TEXT_FOR_RECORDS: u32 = 59;
 
-// The refusals of an image of another edition, and of a settings file for its length and for its edition.
+// The refusal of an image of another edition.
 const OTHER_EDITION: u8 = 22;
-
-const OTHER_LENGTH: u8 = 41;
-
-const OTHER_SETTINGS: u8 = 42;
 
 // The number of the first event that a run refuses, and how many there are where it refuses none; or that they are no events as a whole.
 pub fn first_refused(events: &[u8]) -> usize {
@@ -169,20 +160,4 @@ pub fn instead(file: &[u8], refusal: u8) -> u32 {
         return EDITION;
     }
     NOTHING
-}
-
-// What was given in place of a settings file, with this refusal; or its edition or length, where the refusal is of that.
-pub fn instead_of_settings(file: &[u8], refusal: u8) -> Hint {
-    if refusal == OTHER_SETTINGS {
-        return hints::at(
-            0,
-            instead(file, OTHER_EDITION),
-            settings::layout::edition(file),
-        );
-    }
-    let number = instead(file, refusal);
-    if (refusal == OTHER_LENGTH) & (number == NOTHING) & (file.len() < MOST_READ) {
-        return hints::at(0, LENGTH, (file.len() % MOST_READ) as u16);
-    }
-    hints::at(0, number, 0)
 }

@@ -9,10 +9,8 @@ pub mod refusals;
 mod runs;
 pub mod state;
 pub mod trace;
-pub mod tuned;
 
 use parts::{Line, Page, writing};
-use settings::{Chosen, Settings};
 
 // How far a run is told: the next turn, event and record, and the line before them.
 #[derive(Clone, Copy)]
@@ -30,16 +28,8 @@ pub struct Entry {
     pub sum: u32,
 }
 
-// What is asked of a settings file: values, and the names that they are for; and the number of the words for what is wrong, 0 where nothing is.
-#[derive(Clone, Copy)]
-pub struct Asked {
-    pub settings: Settings,
-    pub which: Chosen,
-    pub wrong: u32,
-}
-
 // The column of what is wrong, from 1; the number of its words, 0 where there are none; and the key of the name that they speak of, or the
-// edition or the length.
+// edition.
 #[derive(Clone, Copy)]
 pub struct Hint {
     pub column: usize,
@@ -52,9 +42,6 @@ const BYTE: u16 = 256;
 
 // How much of a line of a file is shown.
 const MOST_SHOWN: usize = 100;
-
-// How far lines of files, values and hints are set in.
-const SET_IN: usize = 4;
 
 // Nothing is counted further.
 const MOST_COUNTED: usize = 4294967296;
@@ -170,15 +157,15 @@ fn explained(mut line: Line, kind: u8, number: u32) -> Line {
     if kind == words::END {
         return line;
     }
-    line = line.spaces(SET_IN);
+    line = line.spaces(4);
     line = meaning(line, words::SAMPLE, number);
     line = line.end();
     if kind == words::REFUSAL {
         return line;
     }
-    line = line.spaces(SET_IN);
+    line = line.spaces(4);
     line = part(line, words::AFTER_ERROR);
-    line = line.end().spaces(SET_IN);
+    line = line.end().spaces(4);
     line = part(line, words::HANDLER);
     line.end()
 }

@@ -1,10 +1,12 @@
 // Refusals and faults, as a compiler tells them: the file, the line and the column, the number with its words, the line itself, and a hint.
-use crate::{Hint, SET_IN, given, hints, tuned};
+use crate::{Hint, given, hints};
 use parts::{Line, Page};
-use settings::{Chosen, Settings};
 
 // How many faulty lines of a text are shown.
 pub const MOST_SHOWN: usize = 10;
+
+// How far lines of files and hints are set in.
+const SET_IN: usize = 4;
 
 // The refusals of events as a whole, of one event, and of too many turns.
 const BAD_SCRIPT: u8 = 32;
@@ -49,13 +51,13 @@ fn hinted(mut line: Line, hint: Hint) -> Line {
     line.end()
 }
 
-// The name, the edition or the length that a hint ends with.
+// The name or the edition that a hint ends with.
 fn behind(mut line: Line, hint: Hint) -> Line {
     if hint.number == hints::UNDECLARED {
         line = line.byte(b' ');
         return crate::key(line, hint.name);
     }
-    if (hint.number == given::EDITION) | (hint.number == given::LENGTH) {
+    if hint.number == given::EDITION {
         line = line.byte(b' ');
         return line.number(hint.name as u64);
     }
@@ -123,26 +125,6 @@ pub fn of_records(file: &[u8], number: u8) -> Line {
         told = crate::part(told, words::COLON);
     }
     hinted(refusal(told, number), hints::at(0, fault, 0))
-}
-
-// A refusal of a settings file by a fresh drive, behind a line: with the value that is out of its range, with what was given in its place, or with
-// its edition or length.
-pub fn settings_refused(line: Line, file: &[u8], number: u8) -> Line {
-    let told = refusal(line, number);
-    if number == settings::OUT_OF_RANGE {
-        let values = settings::finished(file, Settings::fresh());
-        return tuned::outside(told, values, settings::names_in(file));
-    }
-    hinted(told, given::instead_of_settings(file, number))
-}
-
-pub fn of_settings(file: &[u8], number: u8) -> Line {
-    settings_refused(nowhere(), file, number)
-}
-
-// A refusal of values that were to be written, with the first that its variable can never have.
-pub fn of_values(values: Settings, which: Chosen, number: u8) -> Line {
-    tuned::outside(of_whole(number), values, which)
 }
 
 // A refusal of events that a file gives, as bytes or as a script: the fault of a line, if there is one; of them all; or of one. Nothing where

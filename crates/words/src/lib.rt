@@ -98,33 +98,23 @@ pub const RECORD: u32 = 33;
 
 pub const TURNS_TAKEN: u32 = 34;
 
-pub const EDITION: u32 = 35;
-
-pub const START_VALUE: u32 = 36;
-
-pub const NOT_WITHIN: u32 = 37;
-
-pub const TO: u32 = 38;
-
-pub const ON_FRESH_DRIVE: u32 = 39;
-
 // The last command that the text on the tool's use tells of.
-pub const LAST_COMMAND: u32 = 10;
+pub const LAST_COMMAND: u32 = 9;
 
 // No line that is sought by its meaning has this number or a higher one.
-const MOST_SOUGHT: u32 = 17;
+const MOST_SOUGHT: u32 = 16;
 
 // The table stands in five pieces, since a long one is dear to prove: lines for the tool, numbers of answers, hints, wrong uses, and the text
 // on the tool's use, which is no part of the lines. What is sought most often stands first.
-const TOOL_SIZE: usize = 3340;
+const TOOL_SIZE: usize = 2878;
 
-const ANSWER_SIZE: usize = 2116;
+const ANSWER_SIZE: usize = 1823;
 
-const HINT_SIZE: usize = 2753;
+const HINT_SIZE: usize = 2709;
 
-const USE_SIZE: usize = 1812;
+const USE_SIZE: usize = 1399;
 
-const HELP_SIZE: usize = 2449;
+const HELP_SIZE: usize = 2082;
 
 // Where the first line for people begins, the text on the tool's use, and in it what it says on the first command; and the bytes of all.
 pub const FIRST_FOR_PEOPLE: usize = TOOL_SIZE;
@@ -136,7 +126,7 @@ const FIRST_COMMAND: usize = HELP + 68;
 pub const SIZE: usize = HELP + HELP_SIZE;
 
 // The number of lines, and the bytes of the longest with its end.
-const LINE_COUNT: usize = 241;
+const LINE_COUNT: usize = 217;
 
 pub const LONGEST: usize = 93;
 
@@ -189,11 +179,6 @@ part 31: , different:
 part 32: , all equal
 part 33: record 
 part 34: , turns: 
-part 35:  bytes, edition 
-part 36:  (start value)
-part 37:  is not within 
-part 38:  to 
-part 39: a fresh drive refuses it: 
 what 1: turn
 what 2: kind
 what 4: number
@@ -207,14 +192,13 @@ command 4: list
 command 5: run
 command 6: events
 command 7: compare
-command 8: settings
-command 9: words
-command 10: help
-command 11: -h
-command 12: --help
-command 13: --version
-command 14: -f
-command 15: --texts
+command 8: words
+command 9: help
+command 10: -h
+command 11: --help
+command 12: --version
+command 13: -f
+command 14: --texts
 such 1: a text of 16,385 bytes
 such 2: a line of 65 characters, its comment among them
 such 3: MA 5,1
@@ -235,11 +219,6 @@ such 32: a file of 13 bytes
 such 33: 5 input 5 1, as there are four inputs
 such 34: punnet run feeder.image - 4097
 such 35: a buffer of 11 bytes for one turn; the tool's is long enough
-such 41: a file of 7 bytes, or a text in place of settings
-such 42: a settings file that a later release made, or that was cut off
-such 43: a settings file with VM before VI, or two put together
-such 44: VI=5 and VM=5, as VI has to be below VM
-such 45: a buffer of 7 bytes for a file of 8; the tool's is long enough
 such 51: a file of 13 bytes, or a text in place of records
 such 52: a file of 13 bytes, or a text in place of records
 such 53: a buffer of 7 bytes for one entry; the tool's is long enough
@@ -272,11 +251,6 @@ refusal 32: events that are not 12 bytes each, or more than 4,096
 refusal 33: a bad event, or a turn below that of the event before
 refusal 34: more than 4,096 turns
 refusal 35: the record buffer has fewer than 12 bytes for each turn
-refusal 41: the settings file has fewer than 8 bytes or more than 40
-refusal 42: the settings file is not of edition 1 or 2
-refusal 43: trailer, length or pairs are not those of a settings file
-refusal 44: a value is out of its range
-refusal 45: the settings file does not fit into its buffer
 refusal 51: the first has over 8,192 records, a part of one, or zeros not 0
 refusal 52: the second has over 8,192 records, a part of one, or zeros not 0
 refusal 53: the list of what differs does not fit into its buffer
@@ -351,7 +325,6 @@ hint 56: is a word of the drives; no line may declare it
 hint 57: more than 8,192 records
 hint 58: records have 12 bytes each
 hint 59: this looks like a text; --texts compares the runs of two texts
-hint 60: the length of the file in bytes is
 ";
 
 const USES: [u8; USE_SIZE] =
@@ -364,13 +337,12 @@ usage 4: wants [-f] IMAGE [TEXT]
 usage 5: wants [-f] IMAGE EVENTS TURNS [RECORDS]
 usage 6: wants [-f] SCRIPT EVENTS
 usage 7: wants [-f] FIRST SECOND [LIST]
-usage 8: wants [-f] FILE [NAME=VALUE ..], or [-f] OLD NEW [NAME=VALUE ..]
-usage 9: wants nothing
+usage 8: wants nothing
+usage 9: wants [COMMAND or NUMBER]
 usage 10: wants [COMMAND or NUMBER]
 usage 11: wants [COMMAND or NUMBER]
-usage 12: wants [COMMAND or NUMBER]
-usage 13: wants nothing
-usage 15: wants --texts OLD NEW EVENTS [TURNS]
+usage 12: wants nothing
+usage 14: wants --texts OLD NEW EVENTS [TURNS]
 usage 21: the file that is read; give another name to write to
 usage 22: not a plain file, and so not written
 usage 23: holds something else than an image; -f writes over it
@@ -385,12 +357,6 @@ usage 31: no command and no number; see punnet help and punnet words
 usage 32: written, but what is told of it is not
 usage 33: is there already and is left alone; -f writes over it
 usage 34: is standard input for both; name one of the two files
-usage 35: stands where a file is wanted; values stand behind the files
-usage 36: stands where NAME=VALUE is wanted; at most two files come first
-usage 37: no such name; a settings file can have A, D, VI and VM
-usage 38: the second value for this name
-usage 39: no whole number behind the =
-usage 40: a number that does not fit in 32 bits
 ";
 
 const HELP_TEXT: [u8; HELP_SIZE] =
@@ -417,9 +383,6 @@ const HELP_TEXT: [u8; HELP_SIZE] =
   punnet compare [-f] FIRST SECOND [LIST], or --texts OLD NEW EVENTS [TURNS]
       tell what differs between two files of records, or two texts' runs
       example: punnet compare --texts feeder.mc retuned.mc feeder.events
-  punnet settings [-f] FILE [NAME=VALUE ..], or [-f] OLD NEW [NAME=VALUE ..]
-      show a settings file, write one, or write an old one anew with changes
-      example: punnet settings packer.settings newer.settings VI=1600
   punnet words
       list every number that an answer can have, with its words
       example: punnet words
@@ -433,13 +396,11 @@ A script has an event on each line; ' starts a comment:
       7 position -100    in turn 7 the position becomes -100
 EVENTS is a script or its bytes, or - for no event. TURNS is 0 to 4096;
 try and compare take 4096 where none is given. Turns count from 0.
-NAME is A, D, VI or VM. A drive keeps its value for a name that is not
-in its settings file, and a fresh drive has the start values.
 A file that is read may be - for standard input, and one that is
 written - for standard output. A file that holds something else than
-what is written is replaced only with -f; list, compare and settings
-replace any file only so. The status is 0 accepted, run or equal, 1
-refused or different, 2 usage or file trouble.
+what is written is replaced only with -f; list and compare replace any
+file only so. The status is 0 accepted, run or equal, 1 refused or
+different, 2 usage or file trouble.
 ";
 
 // The byte of the text on the tool's use at a place; an end of line past the text.

@@ -7,4 +7,4 @@ abbrev pub invariant-loop : goal.invariant-loop
 invariant-loop l = Unit {0}
 
 abbrev pub decreases-loop : goal.decreases-loop
-decreases-loop l = 241 - l.counter
+decreases-loop l = 217 - l.counter
