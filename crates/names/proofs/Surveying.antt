@@ -78,9 +78,9 @@ module _ {s : List ℕ} {p : Passed} (h : Reached s p) where
       let here : List ℕ = take (r.end - p.next) (drop p.next s) in
       let whole = said_split s p.next r h.starts l in
       let line : p.lines + 1 ≡ suc (length before) = omega (arith, h.lines) in
-      let lowest-here : lowest 2 (faults (said s) before here) ≡ f = sym (g ∙ rw (a, line, h.counts, e) (fault_by_lem s before here (said (drop r.next s)) whole)) in
+      let lowest_here : lowest 2 (faults (said s) before here) ≡ f = sym (g ∙ rw (a, line, h.counts, e) (fault_by_lem s before here (said (drop r.next s)) whole)) in
       record {
-        fault = rw (said_before_lem s p.next r h.starts l, l.cut, lowest-here);
+        fault = rw (said_before_lem s p.next r h.starts l, l.cut, lowest_here);
         one = omega arith;
         moves = l.moves;
         reached =

@@ -209,11 +209,11 @@ flags cells variables holds place number s m good r here e =
     (left cells variables holds m r.all_there.0 d.effect sound)
 
 -- Turn 11, Events 2: an event changes neither; of the variables below 16 only P and MV (5 and 14).
-module _ (v : ℕ) (low : v < 16) (not-p : v ≡ 5 → ⊥) (not-mv : v ≡ 14 → ⊥) where
+module _ (v : ℕ) (low : v < 16) (not_p : v ≡ 5 → ⊥) (not_mv : v ≡ 14 → ⊥) where
   arrived_leaves : (motion : Motion) (m : Machine) → read (arrived_by motion m).variables v ≡ read m.variables v
   unfolding arrived_by in_motion
   arrived_leaves Still m = refl
-  arrived_leaves (To z) m = read_other (set m.variables 5 z) 14 v (moving_bit Still) not-mv ∙ read_other m.variables 5 v z not-p
+  arrived_leaves (To z) m = read_other (set m.variables 5 z) 14 v (moving_bit Still) not_mv ∙ read_other m.variables 5 v z not_p
   arrived_leaves (Slewing z) m = refl
 
   kind_leaves : (e : Event) (m : Machine) → Kinds e → read (happens e m).variables v ≡ read m.variables v
@@ -223,7 +223,7 @@ module _ (v : ℕ) (low : v < 16) (not-p : v ≡ 5 → ⊥) (not-mv : v ≡ 14 �
       (read_other (set m.variables (15 + e.number) e.value) 20 v (all_inputs (set m.variables (15 + e.number) e.value)) (λ q. omega arith)
       ∙ read_other m.variables (15 + e.number) v e.value (λ q. omega arith))
   kind_leaves e m (arrived k) = rw k (arrived_leaves m.motion m)
-  kind_leaves e m (a_position k t) = rw k (read_other m.variables 5 v e.value not-p)
+  kind_leaves e m (a_position k t) = rw k (read_other m.variables 5 v e.value not_p)
 
 pub flags_event : (e : Event) (m : Machine) → T (good_event e)
     → (read (happens e m).variables 10 ≡ read m.variables 10) × (read (happens e m).variables 15 ≡ read m.variables 15)

@@ -40,10 +40,10 @@ names a d vi vm = record { a = a; d = d; vi = vi; vm = vm }
 
 by_names : (P : Chosen → Type 0) → Two (λ a. Two (λ d. Two (λ vi. Two (λ vm. P (names a d vi vm))))) → (which : Chosen) → P which
 by_names P h which =
-    let with-a = two (λ a. Two (λ d. Two (λ vi. Two (λ vm. P (names a d vi vm))))) h which.a in
-    let with-d = two (λ d. Two (λ vi. Two (λ vm. P (names which.a d vi vm)))) with-a which.d in
-    let with-vi = two (λ vi. Two (λ vm. P (names which.a which.d vi vm))) with-d which.vi in
-    two (λ vm. P (names which.a which.d which.vi vm)) with-vi which.vm
+    let with_a = two (λ a. Two (λ d. Two (λ vi. Two (λ vm. P (names a d vi vm))))) h which.a in
+    let with_d = two (λ d. Two (λ vi. Two (λ vm. P (names which.a d vi vm)))) with_a which.d in
+    let with_vi = two (λ vi. Two (λ vm. P (names which.a which.d vi vm))) with_d which.vi in
+    two (λ vm. P (names which.a which.d which.vi vm)) with_vi which.vm
 
 -- They are good, and their numbers rise.
 pub chosen_good : (g : Settings) (which : Chosen) → good_pairs 0 (chosen_pairs g which) ≡ true

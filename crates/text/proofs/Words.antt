@@ -113,9 +113,9 @@ module _ (P : Name → Bool) (passed : (w : Name) → T (P w) → IsWord w) wher
       (word_or_long w h l)
 
 -- A place in a table of words, as the test that there is one.
-module _ (names : List Name) (All-words : T (all_of is_word names)) where
+module _ (names : List Name) (all_words : T (all_of is_word names)) where
   pub listed_word : (w : Name) → T (not (eqb (numbered names w) 0)) → IsWord w
-  listed_word w t = numbered_word names w All-words (not_same (numbered names w) 0 t)
+  listed_word w t = numbered_word names w all_words (not_same (numbered names w) 0 t)
 
 -- The very characters of a key.
 name_short : (n : ℕ) → length (name_of n) ≤ 2
