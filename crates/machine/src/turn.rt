@@ -21,7 +21,8 @@ impl Motion {
     fn slew(velocity: i32) -> Motion
         ensures { result ≡ slew velocity }
     {
-        if velocity == 0 {
+        let is_still = velocity == 0;
+        if is_still {
             return Motion::Still;
         }
         Motion::Slewing(velocity)
@@ -151,7 +152,8 @@ impl Control {
         ensures { (vars : List ℤ) → joined vars result ≡ held turns (joined vars self) }
     {
         self.hold = turns;
-        if 0 < turns {
+        let is_held = 0 < turns;
+        if is_held {
             return self;
         }
         self.next = self.next + 1;

@@ -80,7 +80,8 @@ pub fn enter(rows: &mut [Row], key: u16, row: Row)
         return;
     }
     let old = rows[i];
-    if NOTHING < old[KIND] {
+    let is_taken = NOTHING < old[KIND];
+    if is_taken {
         return;
     }
     rows[i] = row;

@@ -119,7 +119,8 @@ fn emit_line(rows: &[Row], buffer: &mut [u8], reading: Reading, places: Places) 
     let kind = reading.kind;
     let cell = reading.cell;
     let mut next = places;
-    if kind == Reading::ACTS {
+    let acts = kind == Reading::ACTS;
+    if acts {
         image::write_cell(buffer, places.cell, resolve(rows, cell));
         next.cell = places.cell + CELL_BYTES;
         return next;

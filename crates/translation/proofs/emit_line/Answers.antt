@@ -7,9 +7,9 @@ use Rattle.translation.proofs.Writing.{emit_cell, emit_label, emit_variable, emi
 use borrow.Author.Rules.{rules}
 use Rattle.translation.proofs.emit_line.Goals as goal
 
-pub returns-then-kind-eq-ACTS : goal.returns-then-kind-eq-ACTS
-returns-then-kind-eq-ACTS c =
-    emit_cell c.args.rows.now c.args.reading c.args.places c.args.buffer.now c.resolve.result c.if-kind-eq-ACTS.true c.resolve.ensures c.write_cell.ensures
+pub returns-then-acts : goal.returns-then-acts
+returns-then-acts c =
+    emit_cell c.args.rows.now c.args.reading c.args.places c.args.buffer.now c.resolve.result c.if-acts.true c.resolve.ensures c.write_cell.ensures
 
 pub returns-then-kind-eq-LABEL : goal.returns-then-kind-eq-LABEL
 returns-then-kind-eq-LABEL c =
@@ -21,4 +21,4 @@ returns-then-kind-eq-DECLARED c =
 
 pub returns : goal.returns
 returns c =
-    emit_none c.args.rows.now c.args.reading c.args.places c.args.buffer.now c.if-kind-eq-ACTS.false c.if-kind-eq-LABEL.false c.if-kind-eq-DECLARED.false refl
+    emit_none c.args.rows.now c.args.reading c.args.places c.args.buffer.now c.if-acts.false c.if-kind-eq-LABEL.false c.if-kind-eq-DECLARED.false refl

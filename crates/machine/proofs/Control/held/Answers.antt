@@ -6,9 +6,9 @@ use Rattle.numbers.proofs.Kit.{tests}
 use Rattle.machine.specs.Turn.{held}
 use Rattle.machine.proofs.Control.held.Goals as goal
 
-pub returns-then-turns-gt0 : goal.returns-then-turns-gt0
+pub returns-then-is_held : goal.returns-then-is_held
 unfolding held
-returns-then-turns-gt0 c = λ vars. search tests
+returns-then-is_held c = λ vars. search tests
 
 pub returns : goal.returns
 unfolding held
