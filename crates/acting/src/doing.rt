@@ -55,7 +55,8 @@ fn storing_with(vars: &[i32], v: u32, operator: u8, x: i32, y: i32) -> Effect
 fn calling(kept: u8, cell: u16) -> Effect
     ensures { result ≡ calling kept cell }
 {
-    if kept < Effect::MOST_PLACES {
+    let is_free = kept < Effect::MOST_PLACES;
+    if is_free {
         return Effect::Calls(cell);
     }
     Effect::Fails(Effect::TOO_DEEP)

@@ -4,9 +4,9 @@ use Rattle.numbers.proofs.Kit.{tests}
 use Rattle.effects.specs.Effects.{calling}
 use Rattle.acting.proofs.doing.calling.Goals as goal
 
-pub returns-then-kept-lt-MOST_PLACES : goal.returns-then-kept-lt-MOST_PLACES
+pub returns-then-is_free : goal.returns-then-is_free
 unfolding calling
-returns-then-kept-lt-MOST_PLACES c = search tests
+returns-then-is_free c = search tests
 
 pub returns : goal.returns
 unfolding calling
