@@ -8,6 +8,7 @@ use effects::Effect;
 use program::{Cell, Operand, Variable};
 
 // An operand that is ER.
+// Stays: tried `matches!` with a constant in the pattern: it becomes a chain of tests with a goal for each, and the proof gets longer; a match is no longer than that.
 fn is_er(operand: Operand) -> bool
     ensures { result ≡ is_er same (value_of operand) }
 {
@@ -22,15 +23,12 @@ fn is_er(operand: Operand) -> bool
 fn reads_er(cell: Cell, hold: u32) -> bool
     ensures { result ≡ reads_er same hold (statement_of cell) }
 {
-    let left = cell.left;
-    let right = cell.right;
-    let first = is_er(left);
-    let second = is_er(right);
+    let first = is_er(cell.left);
+    let second = is_er(cell.right);
     if (hold != 0) | !(first | second) {
         return false;
     }
-    let operation = cell.operation;
-    match operation {
+    match cell.operation {
         Cell::SET_WITH => true,
         Cell::IC => false,
         Cell::DC => false,
@@ -47,11 +45,5 @@ fn reads_er(cell: Cell, hold: u32) -> bool
 pub fn clears(cell: Cell, hold: u32, does: Effect) -> bool
     ensures { result ≡ clears_by cell hold does }
 {
-    if reads_er(cell, hold) {
-        return match does {
-            Effect::Fails(_) => false,
-            _ => true,
-        };
-    }
-    false
+    reads_er(cell, hold) && !matches!(does, Effect::Fails(_))
 }

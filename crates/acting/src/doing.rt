@@ -1,5 +1,5 @@
 // What each statement does, by what it reads: an effect, which changes nothing yet.
-ghost use Rattle.std.specs.Prelude.{◌≡◌, cond, eqb, pos, ◌+ℤ◌, ◌-ℤ◌};
+ghost use Rattle.std.specs.Prelude.{◌≡◌, cond, eqb, pos, ◌+ℤ◌};
 ghost use Rattle.program.specs.Cells.{no_target, same, operator_of, statement_of};
 ghost use Rattle.effects.specs.Errors.{result_error};
 ghost use Rattle.effects.specs.Effects.{read, storing, storing_result, storing_with, calling, returning, waiting, holding, moving, slewing, effect};
@@ -105,8 +105,8 @@ fn moving(vars: &[i32], target: i64, kind: u8, value: i32) -> Effect
     if Variable::literals().holds(target) {
         return Effect::Moves {
             target: target as i32,
-            kind: kind,
-            value: value,
+            kind,
+            value,
         };
     }
     Effect::Fails(result_error(target))
@@ -127,36 +127,27 @@ fn slewing(x: i32) -> Effect
 fn set(vars: &[i32], cell: Cell) -> Effect
     ensures { result ≡ storing vars.now cell.written (seen vars.now cell.left) }
 {
-    let left = cell.left;
-    storing(vars, cell.written as u32, value(vars, left))
+    storing(vars, cell.written as u32, value(vars, cell.left))
 }
 
 fn set_with(vars: &[i32], cell: Cell) -> Effect
     ensures { result ≡ storing_with vars.now cell.written (operator_of cell.selector) (seen vars.now cell.left) (seen vars.now cell.right) }
 {
-    let left = cell.left;
-    let right = cell.right;
     storing_with(
         vars,
         cell.written as u32,
         cell.selector,
-        value(vars, left),
-        value(vars, right),
+        value(vars, cell.left),
+        value(vars, cell.right),
     )
 }
 
-fn count_up(vars: &[i32], cell: Cell) -> Effect
-    ensures { result ≡ storing_result vars.now cell.written (read vars.now cell.written +ℤ pos 1) }
+// IC counts by 1, DC by -1.
+fn count(vars: &[i32], cell: Cell, step: i32) -> Effect
+    ensures { result ≡ storing_result vars.now cell.written (read vars.now cell.written +ℤ step) }
 {
     let v = cell.written as u32;
-    storing_result(vars, v, numbers::sum(read(vars, v), 1))
-}
-
-fn count_down(vars: &[i32], cell: Cell) -> Effect
-    ensures { result ≡ storing_result vars.now cell.written (read vars.now cell.written -ℤ pos 1) }
-{
-    let v = cell.written as u32;
-    storing_result(vars, v, numbers::difference(read(vars, v), 1))
+    storing_result(vars, v, numbers::sum(read(vars, v), step))
 }
 
 fn branch(vars: &[i32], cell: Cell) -> Effect
@@ -180,8 +171,7 @@ fn call(vars: &[i32], kept: u8, cell: Cell) -> Effect
 fn hold_or_wait(vars: &[i32], hold: u32, cell: Cell) -> Effect
     ensures { result ≡ holding_by cell.left vars.now hold }
 {
-    let left = cell.left;
-    match left {
+    match cell.left {
         Operand::Nothing => waiting(vars),
         Operand::Literal(z) => holding(hold, z),
         Operand::Variable(v) => holding(hold, read(vars, v)),
@@ -200,16 +190,14 @@ fn arm(target: u16) -> Effect
 fn move_to(vars: &[i32], cell: Cell) -> Effect
     ensures { result ≡ moving vars.now (seen vars.now cell.left) 2 (seen vars.now cell.left) }
 {
-    let left = cell.left;
-    let x = value(vars, left);
+    let x = value(vars, cell.left);
     moving(vars, x as i64, Effect::MOVED_TO, x)
 }
 
 fn move_by(vars: &[i32], cell: Cell) -> Effect
     ensures { result ≡ moving vars.now (read vars.now 5 +ℤ seen vars.now cell.left) 3 (seen vars.now cell.left) }
 {
-    let left = cell.left;
-    let x = value(vars, left);
+    let x = value(vars, cell.left);
     moving(
         vars,
         numbers::sum(read(vars, Variable::P), x),
@@ -221,16 +209,14 @@ fn move_by(vars: &[i32], cell: Cell) -> Effect
 fn slew(vars: &[i32], cell: Cell) -> Effect
     ensures { result ≡ slewing (seen vars.now cell.left) }
 {
-    let left = cell.left;
-    slewing(value(vars, left))
+    slewing(value(vars, cell.left))
 }
 
 // A literal is printed with 0, a variable with its number.
 fn print(vars: &[i32], cell: Cell) -> Effect
     ensures { result ≡ printing_by cell.left vars.now }
 {
-    let left = cell.left;
-    match left {
+    match cell.left {
         Operand::Nothing => Effect::Prints(0, 0),
         Operand::Literal(z) => Effect::Prints(0, z),
         Operand::Variable(v) => Effect::Prints(v, read(vars, v)),
@@ -241,12 +227,11 @@ fn print(vars: &[i32], cell: Cell) -> Effect
 pub fn effect(cell: Cell, vars: &[i32], kept: u8, hold: u32) -> Effect
     ensures { result ≡ effect same same vars.now kept hold (statement_of cell) }
 {
-    let operation = cell.operation;
-    match operation {
+    match cell.operation {
         Cell::SET => set(vars, cell),
         Cell::SET_WITH => set_with(vars, cell),
-        Cell::IC => count_up(vars, cell),
-        Cell::DC => count_down(vars, cell),
+        Cell::IC => count(vars, cell, 1),
+        Cell::DC => count(vars, cell, -1),
         Cell::BR => branch(vars, cell),
         Cell::CL => call(vars, kept, cell),
         Cell::RT => returning(kept),

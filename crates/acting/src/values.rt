@@ -10,11 +10,10 @@ use program::{Cell, Operand};
 pub fn read(vars: &[i32], v: u32) -> i32
     ensures { result ≡ read vars.now v }
 {
-    let i = v as usize;
-    if vars.len() <= i {
-        return 0;
+    match vars.get(v as usize) {
+        Some(value) => *value,
+        None => 0,
     }
-    vars[i]
 }
 
 // The value of an operand.
@@ -49,9 +48,11 @@ pub fn holds(vars: &[i32], cell: Cell) -> bool
     if cell.selector == Cell::ALWAYS {
         return true;
     }
-    let left = cell.left;
-    let right = cell.right;
-    compares(cell.selector, value(vars, left), value(vars, right))
+    compares(
+        cell.selector,
+        value(vars, cell.left),
+        value(vars, cell.right),
+    )
 }
 
 // The operator with this number, in exact whole numbers.

@@ -16,3 +16,4 @@ pub mod OverOrUnder
 pub mod ReadingER
 pub mod Rearming
 pub mod Later
+pub mod Refusing

@@ -14,7 +14,7 @@ use Rattle.events.specs.Events.{bad_script, bad_events, first_bad_event, event_c
 use Rattle.events.proofs.Scripts.{bad_events_lem}
 use Rattle.running.specs.declared.Ended.{Ended}
 use Rattle.running.specs.Courses.{image_course}
-use Rattle.running.specs.Code.{EndedAs}
+use Rattle.running.specs.Code.{reason_number, EndedAs}
 use Rattle.bench.specs.declared.Ran.{Ran}
 use Rattle.bench.specs.declared.State.{State}
 use Rattle.bench.specs.Answers.{state_of, ran_as, refused_as}
@@ -41,7 +41,7 @@ no_bad_event script {i} e h = bad_events_lem script ∙ rw (← e) (le-ltb i (ev
 
 module _ (s script : List ℕ) (budget : ℕ) (b : List ℕ) where
   -- the answer of a refusal, and the buffer as it was
-  refused_as_lem : (n index : ℕ) {r : Ran} → run_refusal s script budget (length b) ≡ n → (n ≡ 0 → ⊥) → refusal_index n script ≡ index → r ≡ refused_as n index → Runs s script budget b r b
+  pub refused_as_lem : (n index : ℕ) {r : Ran} → run_refusal s script budget (length b) ≡ n → (n ≡ 0 → ⊥) → refusal_index n script ≡ index → r ≡ refused_as n index → Runs s script budget b r b
   unfolding ran ran_into
   refused_as_lem n index e h i k =
       record {
@@ -88,7 +88,7 @@ module _ (s script : List ℕ) (budget : ℕ) (b : List ℕ) where
 
           -- the answer and the buffer of a run that ended so
           pub ran_as_lem : {e : Ended} {b' : List ℕ} {state : State} {r : Ran} → 12 * budget ≤ length b → EndedAs (image_course s script budget) e b b' → state ≡ state_of e.machine
-              → r ≡ record { number = 0; index = 0; reason = e.reason; turns = e.turns; records = e.bytes / 12; state = state } → Runs s script budget b r b'
+              → r ≡ record { number = 0; index = 0; reason = reason_number e.reason; turns = e.turns; records = e.bytes / 12; state = state } → Runs s script budget b r b'
           unfolding ran ran_into ran_as
           ran_as_lem {e} {b'} {state} h a q k =
               record {

@@ -1,13 +1,15 @@
 // The parts of the answers: a state, and the refusals.
 ghost use Rattle.std.specs.Prelude.{◌≡◌, map};
 ghost use Rattle.bench.specs.Answers.{state_place_of, no_place, state_of, no_state, refused_as, motion_number, motion_value};
+ghost use Rattle.bench.specs.Running.{number_of, index_of};
 ghost use Rattle.bench.specs.Translating.{answered};
 ghost use Rattle.bench.specs.Listings.{list_answered};
 
-use crate::{Listed, Ran, State, StatePlace, Translated};
+use crate::{Listed, Ran, Refusal, State, StatePlace, Translated};
 use machine::{Machine, Motion, Place, Places};
 
 // The refusals of a text that are not those of a line.
+// Stays: the new form is no plainer: each of these three is told at one place, and an enum of three would be these names and a match to these numbers.
 pub const LONG_TEXT: u8 = 1;
 
 pub const SHORT_BUFFER: u8 = 10;
@@ -19,17 +21,16 @@ pub const LONGEST_TEXT: usize = 16384;
 pub const SHORT_TEXT: u8 = 11;
 
 // The refusals of a run, behind those of its image.
-pub const BAD_SCRIPT: u8 = 32;
+// Stays: `number_of` (specs/Running.antt) says these numbers of the cases of `Refusal`, and the edit `big_budget_told_as_35` turns one.
+const BAD_SCRIPT: u8 = 32;
 
-pub const BAD_EVENT: u8 = 33;
+const BAD_EVENT: u8 = 33;
 
-pub const BIG_BUDGET: u8 = 34;
+const BIG_BUDGET: u8 = 34;
 
-pub const SMALL_ROOM: u8 = 35;
+const SMALL_ROOM: u8 = 35;
 
-// The most turns that a run may take, and the bytes of a record.
-pub const MOST_TURNS: u64 = 4096;
-
+// The bytes of a record.
 pub const RECORD: usize = 12;
 
 // A text that is refused: the number, the line, and no image.
@@ -50,7 +51,32 @@ pub fn not_listed(number: u8) -> Listed
     Listed { number, length: 0 }
 }
 
+impl Refusal {
+    // Its number, and the index beside it.
+    fn number(self) -> u8
+        ensures { result ≡ number_of self }
+    {
+        match self {
+            Refusal::Image(refusal) => refusal.number(),
+            Refusal::BadScript => BAD_SCRIPT,
+            Refusal::BadEvent(_) => BAD_EVENT,
+            Refusal::BigBudget => BIG_BUDGET,
+            Refusal::SmallRoom => SMALL_ROOM,
+        }
+    }
+
+    fn index(self) -> usize
+        ensures { result ≡ index_of self }
+    {
+        match self {
+            Refusal::BadEvent(index) => index,
+            _ => 0,
+        }
+    }
+}
+
 // A motion in an answer.
+// Stays: Forms 13 of document 01: `motion_number` (specs/Answers.antt) says these numbers of the cases of `Motion`.
 const STILL: u8 = 0;
 
 const TO: u8 = 1;
@@ -77,7 +103,8 @@ fn motion_value(motion: Motion) -> i32
     }
 }
 
-// The mark of a return place in an answer.
+// The mark of a return place in an answer, by `state_place_of` (specs/Answers.antt).
+// Stays: `state_place_of` (specs/Answers.antt) says these two numbers, and the edit `mark_off_by_one` turns one.
 const BY_CALL: u8 = 0;
 
 const BY_HANDLER: u8 = 1;
@@ -99,17 +126,11 @@ fn place_of(place: Place) -> StatePlace
     }
 }
 
-// All eight return places. The first are told again, once for each that is kept: in a loop whose end is known when it runs, the compiler leaves a machine's places
-// in one piece.
+// All eight return places.
 fn places_of(places: Places) -> [StatePlace; 8]
     ensures { result ≡ map state_place_of places.all }
 {
-    let all = places.all;
-    let mut told = [no_place(); 8];
-    for i in 0..8 + places.kept as usize {
-        told[i % 8] = place_of(all[i % 8]);
-    }
-    told
+    places.all.map(place_of)
 }
 
 // Every part of a machine's state.
@@ -117,20 +138,16 @@ pub fn state_of(machine: Machine) -> State
     ensures { result ≡ state_of machine }
 {
     let variables = machine.variables;
-    let places = machine.places;
-    let told = places_of(places);
-    let motion = machine.motion;
-    let number = motion_number(motion);
-    let value = motion_value(motion);
+    let places = places_of(machine.places);
     State {
         variables,
         next: machine.next,
-        places: told,
-        kept: places.kept,
+        places,
+        kept: machine.places.kept,
         handler: machine.handler,
         hold: machine.hold,
-        motion: number,
-        value,
+        motion: motion_number(machine.motion),
+        value: motion_value(machine.motion),
     }
 }
 
@@ -147,12 +164,10 @@ fn no_place() -> StatePlace
 fn no_state() -> State
     ensures { result ≡ no_state }
 {
-    let variables = [0i32; 64];
-    let places = [no_place(); 8];
     State {
-        variables,
+        variables: [0i32; 64],
         next: 0,
-        places,
+        places: [no_place(); 8],
         kept: 0,
         handler: 0,
         hold: 0,
@@ -162,16 +177,15 @@ fn no_state() -> State
 }
 
 // A refusal: its number, the index of a bad event, and all else 0.
-pub fn refused(number: u8, index: usize) -> Ran
-    ensures { result ≡ refused_as number index }
+pub fn refused(refusal: Refusal) -> Ran
+    ensures { result ≡ refused_as (number_of refusal) (index_of refusal) }
 {
-    let state = no_state();
     Ran {
-        number,
-        index,
+        number: refusal.number(),
+        index: refusal.index(),
         reason: 0,
         turns: 0,
         records: 0,
-        state,
+        state: no_state(),
     }
 }

@@ -3,9 +3,15 @@
 
 mod answers;
 
+ghost use Rattle.std.specs.Prelude.{◌≡◌};
+ghost use Rattle.numbers.specs.Tests.{lowest};
 ghost use Rattle.bench.specs.Calls.{Translates, Checks, Lists, Runs};
+ghost use Rattle.bench.specs.Running.{run_refusal, refusal_index, faults_with, told_number, told_index};
+
+use events::script::{event_count, first_bad_event, is_bad_script};
 
 // Number 0, and the image's length; or the refusal with its line.
+// Stays: `Translates` (specs/Calls.antt) and the theorems over any calls (specs/Demands.antt) speak of this record and its numbers.
 #[derive(Clone, Copy)]
 pub struct Translated {
     pub number: u8,
@@ -14,12 +20,14 @@ pub struct Translated {
 }
 
 // 0, or the refusal.
+// Stays: `Checks` and the theorems over any calls (specs/Demands.antt) speak of this record and its number.
 #[derive(Clone, Copy)]
 pub struct Checked {
     pub number: u8,
 }
 
 // Number 0, and the listing's length; or the refusal.
+// Stays: `Lists` and the theorems over any calls (specs/Listings.antt) speak of this record and its numbers.
 #[derive(Clone, Copy)]
 pub struct Listed {
     pub number: u8,
@@ -35,6 +43,7 @@ pub struct StatePlace {
 }
 
 // A machine's state. The handler is 65535 where there is none; the motion is 0 still, 1 a move, 2 a slew, and its value the target or the velocity.
+// Stays: `state_of` (specs/Answers.antt), by Forms 13 and 14 of document 01: an enum in an answer has a number and a value.
 #[derive(Clone, Copy)]
 pub struct State {
     pub variables: [i32; 64],
@@ -48,6 +57,7 @@ pub struct State {
 }
 
 // Number 0, with the end reason, the turns run, the records written and the final state; or the refusal with the event's index, and all else 0.
+// Stays: `Runs` and the theorems over any calls (specs/Demands.antt) speak of this record and its numbers.
 #[derive(Clone, Copy)]
 pub struct Ran {
     pub number: u8,
@@ -58,6 +68,16 @@ pub struct Ran {
     pub state: State,
 }
 
+// Why a run is refused: by its image, by its script, by an event, the first bad one with this index, by its budget, or by its buffer.
+#[derive(Clone, Copy)]
+pub enum Refusal {
+    Image(checking::Refusal),
+    BadScript,
+    BadEvent(usize),
+    BigBudget,
+    SmallRoom,
+}
+
 // Translates a program text into an image, which goes to the front of the buffer.
 pub fn translate(text: &[u8], image: &mut [u8]) -> Translated
     ensures { Translates text.now image.old result image.new }
@@ -66,12 +86,10 @@ pub fn translate(text: &[u8], image: &mut [u8]) -> Translated
         return answers::not_translated(answers::LONG_TEXT, 0);
     }
     let rows = names::arrange(text);
-    let survey = names::survey_lines(text, &rows);
-    let fault = survey.fault;
-    if fault.number != 0 {
-        return answers::not_translated(fault.number, fault.line);
-    }
-    let counts = survey.counts;
+    let counts = match names::survey_lines(text, &rows) {
+        Ok(counts) => counts,
+        Err(fault) => return answers::not_translated(fault.number, fault.line),
+    };
     let length = image::image_length(
         counts.cells as u16,
         counts.labels as u16,
@@ -101,9 +119,8 @@ pub fn check(image: &[u8]) -> Checked
 pub fn list(image: &[u8], text: &mut [u8]) -> Listed
     ensures { Lists image.now text.old result text.new }
 {
-    let number = checking::checked(image);
-    if number != 0 {
-        return answers::not_listed(number);
+    if let Err(refusal) = checking::accept(image) {
+        return answers::not_listed(refusal.number());
     }
     let length = printing::write_listing(image, text);
     if text.len() < length {
@@ -112,35 +129,56 @@ pub fn list(image: &[u8], text: &mut [u8]) -> Listed
     Listed { number: 0, length }
 }
 
+// The most turns that a run may take.
+const MOST_TURNS: u64 = 4096;
+
+// Whether a run on this script may begin, with this budget and room for so many bytes, of which each turn takes some.
+pub fn may_begin(events: &[u8], budget: u64, room: usize, bytes: u8) -> Result<(), Refusal>
+    ensures number { told_number result ≡ lowest 32 (faults_with events.now budget room bytes) }
+    ensures index { told_index result ≡ refusal_index (lowest 32 (faults_with events.now budget room bytes)) events.now }
+{
+    if is_bad_script(events) {
+        return Err(Refusal::BadScript);
+    }
+    let bad = first_bad_event(events);
+    if bad < event_count(events) {
+        return Err(Refusal::BadEvent(bad));
+    }
+    if MOST_TURNS < budget {
+        return Err(Refusal::BigBudget);
+    }
+    let is_small = room < (bytes as usize) * (budget as usize);
+    if is_small {
+        return Err(Refusal::SmallRoom);
+    }
+    Ok(())
+}
+
+// Whether a run of this image may begin.
+fn may_run(image: &[u8], events: &[u8], budget: u64, room: usize) -> Result<(), Refusal>
+    ensures number { told_number result ≡ run_refusal image.now events.now budget room }
+    ensures index { told_index result ≡ refusal_index (run_refusal image.now events.now budget room) events.now }
+{
+    if let Err(refusal) = checking::accept(image) {
+        return Err(Refusal::Image(refusal));
+    }
+    may_begin(events, budget, room, answers::RECORD as u8)
+}
+
 // Runs an image on a script of events for at most `budget` turns, and writes the records.
 pub fn run(image: &[u8], events: &[u8], budget: u64, records: &mut [u8]) -> Ran
     ensures { Runs image.now events.now budget records.old result records.new }
 {
-    let number = checking::checked(image);
-    if number != 0 {
-        return answers::refused(number, 0);
-    }
-    if events::script::is_bad_script(events) {
-        return answers::refused(answers::BAD_SCRIPT, 0);
-    }
-    let bad = events::script::first_bad_event(events);
-    if bad < events::script::event_count(events) {
-        return answers::refused(answers::BAD_EVENT, bad);
-    }
-    if answers::MOST_TURNS < budget {
-        return answers::refused(answers::BIG_BUDGET, 0);
-    }
-    if records.len() < answers::RECORD * (budget as usize) {
-        return answers::refused(answers::SMALL_ROOM, 0);
+    if let Err(refusal) = may_run(image, events, budget, records.len()) {
+        return answers::refused(refusal);
     }
     let ended = running::course(image, events, budget as u32, records);
-    let state = answers::state_of(ended.machine);
     Ran {
         number: 0,
         index: 0,
-        reason: ended.reason,
+        reason: ended.reason.number(),
         turns: ended.turns as u64,
         records: ended.bytes / answers::RECORD,
-        state,
+        state: answers::state_of(ended.machine),
     }
 }

@@ -3,93 +3,71 @@
 // write, or gets no memory.
 #![tactic(auto)]
 
-mod line;
+mod answers;
 
-use parts::Line;
+use answers::{Answer, Contents, FILLER};
 use std::alloc::Global;
-use std::io::{self, BufReader, Read, Write};
+use std::io::{self, BufReader, BufWriter, Read, Write};
 
-const HEADER_SIZE: usize = 20;
+const HEADER_SIZE: u32 = 20;
 
 // The longest part, and the largest buffer that is lent; where records are compared, and else.
-const ROOM: usize = 131072;
+const ROOM: u32 = 131072;
 
-const SMALL_ROOM: usize = 65536;
+const SMALL_ROOM: u32 = 65536;
 
 // The kinds of request.
-const TRANSLATE: usize = 1;
-
-const CHECK: usize = 2;
-
-const RUN: usize = 3;
-
-const LIST: usize = 4;
-
-const COMPARE: usize = 5;
-
-// A request's header. Its numbers are, by kind:
-//   translate: the text's length, 0, the size of the image buffer, 0
-//   check: the image's length, 0, 0, 0
-//   run: the image's length, the events' length, the budget, the size of the record buffer
-//   list: the image's length, 0, the size of the text buffer, 0
-//   compare: the lengths of the first and the second records, the size of the list, 0
 #[derive(Clone, Copy)]
-struct Header {
-    kind: usize,
-    n1: usize,
-    n2: usize,
-    n3: usize,
-    n4: usize,
+enum Kind {
+    Translate,
+    Check,
+    Run { budget: u32 },
+    List,
+    Compare,
 }
 
-impl Header {
-    fn of(b: &[u8]) -> Header {
-        Header {
-            kind: numbers::read4(b, 0) as usize,
-            n1: numbers::read4(b, 4) as usize,
-            n2: numbers::read4(b, 8) as usize,
-            n3: numbers::read4(b, 12) as usize,
-            n4: numbers::read4(b, 16) as usize,
-        }
-    }
+// What a header asks for: a call, on so long parts, with a buffer of such a size.
+#[derive(Clone, Copy)]
+struct Request {
+    kind: Kind,
+    first: u32,
+    second: u32,
+    lent: u32,
+}
 
-    // The call writes what it makes of its one part to a buffer.
-    fn is_made(self) -> bool {
-        (self.kind == TRANSLATE) | (self.kind == LIST)
-    }
-
-    // The kind is one of the five, and each number that it does not use is 0.
-    fn is_of_a_kind(self) -> bool {
-        if self.is_made() {
-            return (self.n2 == 0) & (self.n4 == 0);
+impl Request {
+    // A request by the kind and the four numbers of its header; none where there is no such kind, where a number that it does not use is not 0, and
+    // where a part or the buffer is too long.
+    fn of(header: &[u8]) -> Option<Request> {
+        let numbers = [4, 8, 12, 16].map(|at| numbers::read4(header, at));
+        let (kind, first, second, lent) = match (numbers::read4(header, 0), numbers) {
+            (1, [text, 0, image, 0]) => (Kind::Translate, text, 0, image),
+            (2, [image, 0, 0, 0]) => (Kind::Check, image, 0, 0),
+            (3, [image, events, budget, records]) => (Kind::Run { budget }, image, events, records),
+            (4, [image, 0, text, 0]) => (Kind::List, image, 0, text),
+            (5, [first, second, list, 0]) => (Kind::Compare, first, second, list),
+            _ => return None,
+        };
+        let room = kind.room();
+        if (room < first) | (room < second) | (room < lent) {
+            return None;
         }
-        if self.kind == CHECK {
-            return (self.n2 == 0) & (self.n3 == 0) & (self.n4 == 0);
-        }
-        if self.kind == COMPARE {
-            return self.n4 == 0;
-        }
-        self.kind == RUN
+        Some(Request {
+            kind,
+            first,
+            second,
+            lent,
+        })
     }
+}
 
-    // The size of the buffer that the call is lent.
-    fn lent(self) -> usize {
-        if self.kind == RUN { self.n4 } else { self.n3 }
-    }
-
+impl Kind {
     // How long a part and a buffer may be.
-    fn room(self) -> usize {
-        if self.kind == COMPARE {
-            ROOM
-        } else {
-            SMALL_ROOM
+    fn room(self) -> u32 {
+        match self {
+            Kind::Compare => ROOM,
+            _ => SMALL_ROOM,
         }
-    }
-
-    // There is room for the parts and for the buffer too.
-    fn is_sound(self) -> bool {
-        let room = self.room();
-        self.is_of_a_kind() & (self.n1 <= room) & (self.n2 <= room) & (self.lent() <= room)
     }
 }
 
@@ -100,137 +78,74 @@ fn refuse<W: Write>(output: &mut W) -> io::Result<bool> {
 }
 
 // Reads a header or a part of a request: so many bytes, or fewer where the input ends before.
-fn receive<R: Read>(alloc: Global, input: &mut R, length: usize) -> io::Result<Vec<u8>> {
+fn receive<R: Read>(alloc: Global, input: &mut R, length: u32) -> io::Result<Vec<u8>> {
     let mut part = Vec::new(alloc);
     input.by_ref().take(length as u64).read_to_end(&mut part)?;
     Ok(part)
 }
 
-fn answer_translate<W: Write>(output: &mut W, text: &[u8], image: &mut [u8]) -> io::Result<()> {
-    let translated = bench::translate(text, image);
-    let mut line = Line::empty().byte(b'T');
-    line = line::number(line, translated.number as u64);
-    line = line::number(line, translated.line as u64);
-    line = line::number(line, translated.length as u64);
-    line::contents(output, line, image)
-}
-
-fn answer_check<W: Write>(output: &mut W, image: &[u8]) -> io::Result<()> {
-    let checked = bench::check(image);
-    line::end(
-        output,
-        line::number(Line::empty().byte(b'C'), checked.number as u64),
-    )
-}
-
-fn answer_list<W: Write>(output: &mut W, image: &[u8], text: &mut [u8]) -> io::Result<()> {
-    let listed = bench::list(image, text);
-    let mut line = Line::empty().byte(b'L');
-    line = line::number(line, listed.number as u64);
-    line = line::number(line, listed.length as u64);
-    line::contents(output, line, text)
-}
-
-fn answer_compare<W: Write>(
-    output: &mut W,
-    first: &[u8],
-    second: &[u8],
-    list: &mut [u8],
-) -> io::Result<()> {
-    let compared = comparing::compare(first, second, list);
-    let mut line = Line::empty().byte(b'D');
-    line = line::number(line, compared.number as u64);
-    line = line::number(line, compared.entries as u64);
-    line::contents(output, line, list)
-}
-
-fn answer_run<W: Write>(
-    output: &mut W,
-    image: &[u8],
-    events: &[u8],
-    budget: u64,
-    records: &mut [u8],
-) -> io::Result<()> {
-    let ran = bench::run(image, events, budget, records);
-    line::contents(output, line::ran(Line::empty().byte(b'R'), ran), records)
-}
-
 // Makes the call of a request on its parts and on the buffer, and writes the answer.
 fn call<W: Write>(
     output: &mut W,
-    kind: usize,
-    budget: u64,
+    kind: Kind,
     first: &[u8],
     second: &[u8],
     lent: &mut [u8],
 ) -> io::Result<()> {
-    if kind == TRANSLATE {
-        return answer_translate(output, first, lent);
+    match kind {
+        Kind::Translate => {
+            let answer = Answer(bench::translate(first, lent));
+            writeln!(output, "{answer} {}", Contents(lent))
+        }
+        Kind::Check => {
+            let answer = Answer(bench::check(first));
+            writeln!(output, "{answer}")
+        }
+        Kind::Run { budget } => {
+            let answer = Answer(bench::run(first, second, budget as u64, lent));
+            writeln!(output, "{answer} {}", Contents(lent))
+        }
+        Kind::List => {
+            let answer = Answer(bench::list(first, lent));
+            writeln!(output, "{answer} {}", Contents(lent))
+        }
+        Kind::Compare => {
+            let answer = Answer(comparing::compare(first, second, lent));
+            writeln!(output, "{answer} {}", Contents(lent))
+        }
     }
-    if kind == CHECK {
-        return answer_check(output, first);
-    }
-    if kind == LIST {
-        return answer_list(output, first, lent);
-    }
-    if kind == COMPARE {
-        return answer_compare(output, first, second, lent);
-    }
-    answer_run(output, first, second, budget, lent)
-}
-
-fn call_with<W: Write>(
-    output: &mut W,
-    header: Header,
-    first: &[u8],
-    second: &[u8],
-) -> io::Result<()> {
-    let mut lent = [line::FILLER; ROOM];
-    call(
-        output,
-        header.kind,
-        header.n3 as u64,
-        first,
-        second,
-        parts::lent(&mut lent, header.lent()),
-    )
-}
-
-// Reads the parts of a request and answers it, and whether to go on.
-fn serve<R: Read, W: Write>(
-    alloc: Global,
-    input: &mut R,
-    output: &mut W,
-    header: Header,
-) -> io::Result<bool> {
-    let first = receive(alloc, input, header.n1)?;
-    let second = receive(alloc, input, header.n2)?;
-    if (first.len() < header.n1) | (second.len() < header.n2) {
-        return refuse(output);
-    }
-    call_with(output, header, &first, &second)?;
-    Ok(true)
 }
 
 // Answers the next request, and whether to go on: not at the end of the input, nor after a broken request.
 fn answer<R: Read, W: Write>(alloc: Global, input: &mut R, output: &mut W) -> io::Result<bool> {
-    let bytes = receive(alloc, input, HEADER_SIZE)?;
-    if bytes.is_empty() {
+    let header = receive(alloc, input, HEADER_SIZE)?;
+    if header.is_empty() {
         return Ok(false);
     }
-    let header = Header::of(&bytes);
-    if (bytes.len() < HEADER_SIZE) | !header.is_sound() {
+    if header.len() < HEADER_SIZE as usize {
         return refuse(output);
     }
-    serve(alloc, input, output, header)
+    let Some(request) = Request::of(&header) else {
+        return refuse(output);
+    };
+    let first = receive(alloc, input, request.first)?;
+    let second = receive(alloc, input, request.second)?;
+    if (first.len() < request.first as usize) | (second.len() < request.second as usize) {
+        return refuse(output);
+    }
+    let mut lent = vec![in alloc; FILLER; request.lent as usize]?;
+    call(output, request.kind, &first, &second, &mut lent)?;
+    Ok(true)
 }
 
 // A proved loop has to end, and nothing says that the input does. So the loop counts its turns, to a number that no run reaches.
 fn main(rt: HostRuntime) -> io::Result<()> {
     let mut input = BufReader::new(rt.alloc(), rt.stdin())?;
-    let mut output = rt.stdout();
+    let mut output = BufWriter::new(rt.alloc(), rt.stdout())?;
     for _ in 0..u64::MAX {
-        if !answer(rt.alloc(), &mut input, &mut output)? {
+        let goes_on = answer(rt.alloc(), &mut input, &mut output)?;
+        output.flush()?;
+        if !goes_on {
             break;
         }
     }

@@ -1,34 +1,17 @@
--- The code's table of layouts is that of Check, and a cell's fields fit a layout where those at its place do.
+-- A cell's fields fit a layout where those at its place do.
 -- Assumes nothing.
-use mathlib.Core.Path.{◌≡◌, refl, ap, ◌∙◌}
+use mathlib.Core.Path.{◌≡◌, refl, ap}
 use mathlib.Core.Bool.{Bool, true, false, cond, ◌&&◌, not}
-use mathlib.Core.List.{List, ◌∷◌, map}
-use Prim.Native.Nat.{ℕ, suc, ◌+◌, ◌*◌, ◌/◌, ◌%◌, ◌<◌}
-use native.Mathlib.Numerals.{add-one}
+use mathlib.Core.List.{List}
+use Prim.Native.Nat.{ℕ, ◌+◌, ◌*◌, ◌/◌, ◌%◌}
 use borrow.Author.Tests.{eqb-true}
 use lib.Dec.{eqb}
-use lib.ListN.{get_or, drop, get_or-map}
-use lib.Seq.{drop-cons}
 use Rattle.numbers.specs.Bytes.{field}
 use Rattle.numbers.specs.Tests.{any_of}
 use Rattle.image.specs.Layout.{variable_count}
-use Rattle.image.specs.Check.{Use, uses, layouts, good_written, good_selector, good_operand, good_target, fits, bad_cell}
+use Rattle.image.specs.Check.{Use, layouts, good_written, good_selector, good_operand, good_target, fits, bad_cell}
 use Rattle.cells.specs.Code.{fields_at, fits_of}
 use Rattle.cells.specs.declared.Fields.{Fields}
-
--- A layout as a number, as the code's table has it, and back.
-abbrev pub sum_of : Use → ℕ
-sum_of u =
-    u.operation
-    + (cond u.writes 16 0 + (cond u.left 32 0 + (cond u.right 64 0 + (cond u.target 128 0 + 256 * u.selectors))))
-
-abbrev pub of_sum : ℕ → Use
-of_sum n = uses (n % 16) (eqb (n / 16 % 2) 1) (n / 256 % 256) (eqb (n / 32 % 2) 1) (eqb (n / 64 % 2) 1) (eqb (n / 128 % 2) 1)
-
--- The layouts from the row i on.
-pub row_split : (i : ℕ) → i < 17 → drop i layouts ≡ of_sum (get_or (map sum_of layouts) i 0) ∷ drop (i + 1) layouts
-unfolding layouts
-row_split i h = rw (add-one i) (drop-cons (map of_sum (map sum_of layouts)) i (of_sum 0) h ∙ ap (λ (u : Use). u ∷ drop (suc i) layouts) (get_or-map of_sum (map sum_of layouts) i 0))
 
 -- A test behind that of two numbers may take either.
 either_number : (m n : ℕ) (p : ℕ → Bool) → (eqb m n && p m) ≡ (eqb m n && p n)

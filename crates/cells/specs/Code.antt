@@ -8,7 +8,6 @@ use Rattle.numbers.specs.Tests.{any_below}
 use Rattle.program.specs.Variables.{in_range, literals}
 use Rattle.image.specs.Check.{Use, uses, good_written, good_selector, good_operand}
 use Rattle.cells.specs.declared.Fields.{Fields}
-use Rattle.cells.specs.declared.Layout.{Layout}
 
 -- A table has a mark at each number below `size` that `key` gives for one of the first n.
 pub record Marked (size : ℕ) (key : ℕ → ℕ) (n : ℕ) (marks : List Bool) : Type 0 where
@@ -33,8 +32,9 @@ fields_at s k =
       zeros = field 2 (16 * k + 14) s;
     }
 
-unfoldable pub use_of : Layout → Use
-use_of u = uses u.operation u.writes u.last u.left u.right u.target
+-- A row of the code's table, as a layout.
+unfoldable pub use_of : ℕ × Bool × ℕ × Bool × Bool × Bool → Use
+use_of (operation, writes, last, left, right, target) = uses operation writes last left right target
 
 -- Whether the target is good where one is used was found before.
 unfoldable pub fits_of : ℕ → Bool → Fields → Use → Bool

@@ -1,7 +1,7 @@
 // The cells of an image: whether each is one that translating makes.
 #![tactic(auto)]
 
-ghost use Rattle.std.specs.Prelude.{◌≡◌, true, ◌∷◌, ◌+◌, ◌<◌, drop, set};
+ghost use Rattle.std.specs.Prelude.{◌≡◌, true, set};
 ghost use Rattle.numbers.specs.Tests.{any_of};
 ghost use Rattle.image.specs.Layout.{label_count, variable_count, label_target};
 ghost use Rattle.image.specs.Check.{layouts, good_written, good_selector, good_operand, good_target, bad_cell, bad_cells};
@@ -14,6 +14,7 @@ use program::{Cell, Variable};
 const TARGETS: usize = (Cell::MOST as usize) + 1;
 
 // The fields of a cell as they stand.
+// Stays: bytes of an image, of which any may stand there: `fields_at` (specs/Code.antt) reads them.
 #[derive(Clone, Copy)]
 struct Fields {
     operation: u8,
@@ -28,51 +29,27 @@ struct Fields {
 
 // The fields that an operation may use together: the operation; whether it writes a variable; its last operator or
 // comparison, 0 where it has none; whether it has a left operand, a right operand and a target.
-#[derive(Clone, Copy)]
-struct Layout {
-    operation: u8,
-    writes: bool,
-    last: u8,
-    left: bool,
-    right: bool,
-    target: bool,
-}
+// Stays: 0 for no operator and no comparison: `layouts` and `good_selector` of Check say 0.
+type Layout = (u8, bool, u8, bool, bool, bool);
 
-// A layout as a number: its operation, and one of these for each thing that it has.
-const WRITES: u16 = 16;
-
-const HAS_LEFT: u16 = 32;
-
-const HAS_RIGHT: u16 = 64;
-
-const HAS_TARGET: u16 = 128;
-
-const LAST: u16 = 256;
-
-const OPERATORS: u16 = LAST * (Cell::XOR as u16);
-
-const COMPARISONS: u16 = LAST * (Cell::AT_LEAST as u16);
-
-const ROWS: usize = 17;
-
-const LAYOUTS: [u16; ROWS] = [
-    (Cell::SET as u16) + WRITES + HAS_LEFT,
-    (Cell::SET_WITH as u16) + WRITES + OPERATORS + HAS_LEFT + HAS_RIGHT,
-    (Cell::IC as u16) + WRITES,
-    (Cell::DC as u16) + WRITES,
-    (Cell::BR as u16) + HAS_TARGET,
-    (Cell::BR as u16) + COMPARISONS + HAS_LEFT + HAS_RIGHT + HAS_TARGET,
-    (Cell::CL as u16) + HAS_TARGET,
-    (Cell::CL as u16) + COMPARISONS + HAS_LEFT + HAS_RIGHT + HAS_TARGET,
-    Cell::RT as u16,
-    Cell::E as u16,
-    Cell::H as u16,
-    (Cell::H as u16) + HAS_LEFT,
-    (Cell::OE as u16) + HAS_TARGET,
-    (Cell::MA as u16) + HAS_LEFT,
-    (Cell::MR as u16) + HAS_LEFT,
-    (Cell::SL as u16) + HAS_LEFT,
-    (Cell::PR as u16) + HAS_LEFT,
+const LAYOUTS: [Layout; 17] = [
+    (Cell::SET, true, 0, true, false, false),
+    (Cell::SET_WITH, true, Cell::XOR, true, true, false),
+    (Cell::IC, true, 0, false, false, false),
+    (Cell::DC, true, 0, false, false, false),
+    (Cell::BR, false, 0, false, false, true),
+    (Cell::BR, false, Cell::AT_LEAST, true, true, true),
+    (Cell::CL, false, 0, false, false, true),
+    (Cell::CL, false, Cell::AT_LEAST, true, true, true),
+    (Cell::RT, false, 0, false, false, false),
+    (Cell::E, false, 0, false, false, false),
+    (Cell::H, false, 0, false, false, false),
+    (Cell::H, false, 0, true, false, false),
+    (Cell::OE, false, 0, false, false, true),
+    (Cell::MA, false, 0, true, false, false),
+    (Cell::MR, false, 0, true, false, false),
+    (Cell::SL, false, 0, true, false, false),
+    (Cell::PR, false, 0, true, false, false),
 ];
 
 // The variable written is there and not read-only; unused, it is 0.
@@ -118,25 +95,17 @@ fn is_label_target(s: &[u8], target: u16) -> bool
     ensures { result ≡ labelled s.now target }
 {
     let cells = image::cell_count(s);
-    let labels = image::label_count(s);
-    let mut k: u16 = 0;
-    while k < labels {
-        if image::target_at(s, cells, k) == target {
-            return true;
-        }
-        k += 1;
-    }
-    false
+    (0..image::label_count(s)).any(|k| image::target_at(s, cells, k) == target)
 }
 
 // A mark at a place; none past the end.
+// Stays: an index behind its test: tried with `get_mut`, after which a proof knows the length of the slice and none of its elements.
 fn mark(marks: &mut [bool], place: usize)
     ensures { marks.new ≡ set marks.old place true }
 {
-    if marks.len() <= place {
-        return;
+    if place < marks.len() {
+        marks[place] = true;
     }
-    marks[place] = true;
 }
 
 // The targets of the label records, each marked; those past the table are not.
@@ -144,30 +113,11 @@ fn label_targets(s: &[u8]) -> [bool; TARGETS]
     ensures { Marked 257 (label_target s.now) (label_count s.now) result }
 {
     let cells = image::cell_count(s);
-    let labels = image::label_count(s);
     let mut marks = [false; TARGETS];
-    let mut k: u16 = 0;
-    while k < labels {
+    for k in 0..image::label_count(s) {
         mark(&mut marks, image::target_at(s, cells, k) as usize);
-        k += 1;
     }
     marks
-}
-
-// The target of a cell that uses one: a label record has it, or it is that of `OE 0`. The records are walked only for a target past the
-// table, which no good image has.
-fn good_target(s: &[u8], marks: &[bool; TARGETS], operation: u8, target: u16) -> bool
-    requires { Marked 257 (label_target s.now) (label_count s.now) marks.now }
-    ensures { result ≡ good_target s.now operation true target }
-{
-    if (operation == Cell::OE) & (target == Cell::NO_TARGET) {
-        return true;
-    }
-    let place = target as usize;
-    if place < TARGETS {
-        return marks[place];
-    }
-    is_label_target(s, target)
 }
 
 fn fields_at(s: &[u8], k: u16) -> Fields
@@ -190,79 +140,82 @@ fn fields_at(s: &[u8], k: u16) -> Fields
 fn fits(variables: u16, aimed: bool, f: Fields, u: Layout) -> bool
     ensures { result ≡ fits_of variables aimed f (use_of u) }
 {
-    if f.operation != u.operation {
+    let (operation, writes, last, left, right, target) = u;
+    if f.operation != operation {
         return false;
     }
-    if !good_written(variables, u.writes, f.written) {
+    if !good_written(variables, writes, f.written) {
         return false;
     }
-    if !good_selector(u.last, f.selector) {
+    if !good_selector(last, f.selector) {
         return false;
     }
-    if !good_operand(variables, u.left, f.shapes % image::RIGHT_SHAPE, f.left) {
+    if !good_operand(variables, left, f.shapes % image::RIGHT_SHAPE, f.left) {
         return false;
     }
-    if !good_operand(variables, u.right, f.shapes / image::RIGHT_SHAPE, f.right) {
+    if !good_operand(variables, right, f.shapes / image::RIGHT_SHAPE, f.right) {
         return false;
     }
-    if u.target {
+    if target {
         return aimed & (f.zeros == 0);
     }
     (f.target == 0) & (f.zeros == 0)
 }
 
-// A row of the table.
-fn row(i: usize) -> Layout
-    requires { i < 17 }
-    ensures { drop i layouts ≡ use_of result ∷ drop (i + 1) layouts }
-{
-    let n = LAYOUTS[i];
-    Layout {
-        operation: (n % WRITES) as u8,
-        writes: n / WRITES % 2 == 1,
-        last: (n / LAST % LAST) as u8,
-        left: n / HAS_LEFT % 2 == 1,
-        right: n / HAS_RIGHT % 2 == 1,
-        target: n / HAS_TARGET % 2 == 1,
-    }
-}
-
 fn has_layout(variables: u16, aimed: bool, f: Fields) -> bool
     ensures { result ≡ any_of (fits_of variables aimed f) layouts }
 {
-    let mut i: usize = 0;
-    while i < ROWS {
-        if fits(variables, aimed, f, row(i)) {
-            return true;
-        }
-        i += 1;
-    }
-    false
+    LAYOUTS.iter().any(|u| fits(variables, aimed, f, *u))
 }
 
-fn bad_cell(s: &[u8], marks: &[bool; TARGETS], variables: u16, k: u16) -> bool
-    requires marked { Marked 257 (label_target s.now) (label_count s.now) marks.now }
-    requires counted { variables ≡ variable_count s.now }
-    ensures { result ≡ bad_cell s.now k }
-{
-    let f = fields_at(s, k);
-    let aimed = good_target(s, marks, f.operation, f.target);
-    !has_layout(variables, aimed, f)
+// An image whose cells are judged: how many variables it has, and the targets of its labels, each marked.
+#[derive(Drop)]
+struct Judged<'a> {
+    image: &'a [u8],
+    variables: u16,
+    targets: [bool; TARGETS],
+    ghost counted: { variables ≡ variable_count image.now },
+    ghost marked: { Marked 257 (label_target image.now) (label_count image.now) targets },
+}
+
+impl<'a> Judged<'a> {
+    fn of(image: &'a [u8]) -> Self
+        ensures { result.image.now ≡ image.now }
+    {
+        Judged {
+            image,
+            variables: image::variable_count(image),
+            targets: label_targets(image),
+        }
+    }
+
+    // The target of a cell that uses one: a label record has it, or it is that of `OE 0`. The records are walked only for a target
+    // past the table, which no good image has.
+    fn good_target(&self, operation: u8, target: u16) -> bool
+        ensures { result ≡ good_target self.now.image.now operation true target }
+    {
+        if (operation == Cell::OE) & (target == Cell::NO_TARGET) {
+            return true;
+        }
+        match self.targets.get(target as usize) {
+            Some(marked) => *marked,
+            None => is_label_target(self.image, target),
+        }
+    }
+
+    fn bad_cell(&self, k: u16) -> bool
+        ensures { result ≡ bad_cell self.now.image.now k }
+    {
+        let f = fields_at(self.image, k);
+        let aimed = self.good_target(f.operation, f.target);
+        !has_layout(self.variables, aimed, f)
+    }
 }
 
 // Some cell has none of the layouts.
 pub fn bad_cells(s: &[u8]) -> bool
     ensures { result ≡ bad_cells s.now }
 {
-    let cells = image::cell_count(s);
-    let variables = image::variable_count(s);
-    let marks = label_targets(s);
-    let mut k: u16 = 0;
-    while k < cells {
-        if bad_cell(s, &marks, variables, k) {
-            return true;
-        }
-        k += 1;
-    }
-    false
+    let judged = Judged::of(s);
+    (0..image::cell_count(s)).any(|k| judged.bad_cell(k))
 }

@@ -18,13 +18,13 @@ use Rattle.program.specs.Code.{name_of}
 use Rattle.numbers.proofs.Truth.{both, either, same_test}
 use Rattle.numbers.proofs.Tests.{eq_list_refl, eq_list_eq}
 use Rattle.program.proofs.Keys.{two_bytes, free_bytes}
-use Rattle.image.specs.Layout.{image_length, cell_count, label_count, variable_count, label_place, variable_place, name_at}
-use Rattle.image.specs.Check.{record_place, record_name, bad_name}
+use Rattle.image.specs.Layout.{image_length, label_count, variable_count, label_place, variable_place, name_at}
+use Rattle.image.specs.Check.{bad_trailer, record_place, record_name, bad_name}
 use Rattle.image.proofs.Any.{same_search}
 use Rattle.program.proofs.Results.{held, failed}
-use Rattle.image.proofs.Records.{Fitting}
+use Rattle.image.proofs.Records.{Fitting, fitting}
 use Rattle.cells.specs.Code.{Marked}
-use Rattle.checking.specs.Code.{record_place_of, key_of, repeated_key, bad_key}
+use Rattle.checking.specs.Code.{key_at, repeated_key, bad_key}
 
 -- Two numbers of w bytes are the same where their bytes are.
 pub eq_bytes : (w a b : ℕ) → a < 256 ^ w → b < 256 ^ w → eq_list (bytes w a) (bytes w b) ≡ eqb a b
@@ -36,29 +36,31 @@ eq_bytes w a b ha hb =
     (λ t. subst (λ (m : ℕ). T (eq_list (bytes w a) (bytes w m))) (eqb→eq a b t) (eq_list_refl (bytes w a)))
 
 module _ (s : List ℕ) (byte : Bytes s) (fit : Fitting s) where
-  abbrev key_at : ℕ → ℕ
-  key_at k = key_of (cell_count s) (label_count s) s k
-
   inside : (k : ℕ) → k < label_count s + variable_count s → Dec (k < label_count s) → record_place s k + 2 ≤ length s
   unfolding record_place label_place variable_place image_length
   inside k h (yes l) = let e = fit.size in rw (lt-ltb k (label_count s) l) (omega arith)
   inside k h (no l) = let e = fit.size in rw (le-ltb k (label_count s) (omega arith)) (omega arith)
 
-  name_key_lem : (k : ℕ) → k < label_count s + variable_count s → record_name s k ≡ bytes 2 (key_at k)
-  unfolding record_name name_at key_of record_place_of record_place label_place variable_place
+  name_key_lem : (k : ℕ) → k < label_count s + variable_count s → record_name s k ≡ bytes 2 (key_at s k)
+  unfolding record_name name_at key_at
   name_key_lem k h = sym (bytes_field 2 (record_place s k) s byte (inside k h (dec_lt k (label_count s))))
 
-  key_below : (k : ℕ) → key_at k < 256 ^ 2
-  unfolding key_of
-  key_below k = field_below 2 (record_place_of (cell_count s) (label_count s) k) s byte
+  key_below : (k : ℕ) → key_at s k < 256 ^ 2
+  unfolding key_at
+  key_below k = field_below 2 (record_place s k) s byte
 
   -- A bad name is a bad key.
-  pub bad_key_lem : (k : ℕ) → k < label_count s + variable_count s → bad_key (cell_count s) (label_count s) s k ≡ bad_name s k
+  bad_key_lem : (k : ℕ) → k < label_count s + variable_count s → bad_key s k ≡ bad_name s k
   unfolding bad_name bad_key repeated_key
   bad_key_lem k h =
       ap₂ (λ (u v : Bool). not u || v)
-      (sym (ap free_name (name_key_lem k h) ∙ free_bytes (key_at k) (key_below k)))
-      (same_search k (λ j l. sym (ap₂ eq_list (name_key_lem j (omega arith)) (name_key_lem k h) ∙ eq_bytes 2 (key_at j) (key_at k) (key_below j) (key_below k))))
+      (sym (ap free_name (name_key_lem k h) ∙ free_bytes (key_at s k) (key_below k)))
+      (same_search k (λ j l. sym (ap₂ eq_list (name_key_lem j (omega arith)) (name_key_lem k h) ∙ eq_bytes 2 (key_at s j) (key_at s k) (key_below j) (key_below k))))
+
+-- The same of an image whose trailer is good, by its counts.
+pub looked : (s : List ℕ) → Bytes s → bad_trailer s ≡ false → {labels variables : ℕ} → labels ≡ label_count s → variables ≡ variable_count s → (k : ℕ)
+    → k < labels + variables → bad_key s k ≡ bad_name s k
+looked s byte t l v k h = bad_key_lem s byte (fitting s t) k (omega (arith, l, v))
 
 -- The second character of a name is at most a `Z`, so its number is below 91 * 256.
 character_most : (c : ℕ) → T (word_character c) → c ≤ 90
@@ -77,14 +79,14 @@ name_below n t =
     omega arith
 
 -- A record's key, by whether it may be declared, and by the marks of those before.
-module _ (cells labels : ℕ) (s : List ℕ) (k : ℕ) {n : ℕ} {u : Bool} (e : n ≡ key_of cells labels s k) (eu : u ≡ free_name (name_of n)) where
-  pub not_free : u ≡ false → bad_key cells labels s k ≡ true
+module _ (s : List ℕ) (k : ℕ) {n : ℕ} {u : Bool} (e : n ≡ key_at s k) (eu : u ≡ free_name (name_of n)) where
+  pub not_free : u ≡ false → bad_key s k ≡ true
   unfolding bad_key
   not_free f = rw (← e, failed eu f)
 
   pub key_inside : u ≡ true → n < 23296
   key_inside f = name_below n (rw (held eu f) tt)
 
-  pub free : {marks : List Bool} {t : Bool} → u ≡ true → Marked 23296 (key_of cells labels s) k marks → get_or marks n false ≡ t → bad_key cells labels s k ≡ t
+  pub free : {marks : List Bool} {t : Bool} → u ≡ true → Marked 23296 (key_at s) k marks → get_or marks n false ≡ t → bad_key s k ≡ t
   unfolding bad_key repeated_key
   free f m et = rw (← e, held eu f) (sym (m.each n (key_inside f)) ∙ et)

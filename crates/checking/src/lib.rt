@@ -2,23 +2,31 @@
 #![tactic(auto)]
 
 ghost use Rattle.std.specs.Prelude.{◌≡◌, false, ◌+◌};
+ghost use Rattle.numbers.specs.Bytes.{Bytes};
 ghost use Rattle.numbers.specs.Tests.{any_below};
-ghost use Rattle.image.specs.Layout.{label_count, variable_count};
-ghost use Rattle.image.specs.Check.{bad_length, bad_edition, bad_trailer, bad_name, bad_target, bad_start, bad_records, checked};
-ghost use Rattle.checking.specs.Code.{record_place_of, key_of, bad_target_of, bad_start_of};
+ghost use Rattle.image.specs.Layout.{cell_count, label_count, variable_count};
+ghost use Rattle.image.specs.Check.{bad_length, bad_edition, bad_trailer, record_place, bad_name, bad_target, bad_start, bad_records, checked};
+ghost use Rattle.checking.specs.Code.{key_at, number_of, refusal_number};
 
 use program::{Cell, Variable};
 
 // The refusals of an image.
-const BAD_LENGTH: u8 = 21;
+#[derive(Clone, Copy, PartialEq, Eq, Debug)]
+pub enum Refusal {
+    BadLength = 21,
+    BadEdition = 22,
+    BadTrailer = 23,
+    BadCells = 24,
+    BadRecords = 25,
+}
 
-const BAD_EDITION: u8 = 22;
-
-const BAD_TRAILER: u8 = 23;
-
-const BAD_CELLS: u8 = 24;
-
-const BAD_RECORDS: u8 = 25;
+impl Refusal {
+    pub fn number(self) -> u8
+        ensures { result ≡ number_of self }
+    {
+        self as u8
+    }
+}
 
 // The length of an image with as many cells, labels and variables as there may be.
 const LONGEST: usize = image::CELL_BYTES * (Cell::MOST as usize)
@@ -55,133 +63,148 @@ fn bad_trailer(s: &[u8]) -> bool
         | (Variable::MOST_USERS < variables)
 }
 
-// Where a name record stands, the labels' first.
-fn record_place(cells: u16, labels: u16, k: u16) -> usize
-    ensures { result ≡ record_place_of cells labels k }
-{
-    if k < labels {
-        return image::label_place(cells, k);
-    }
-    image::variable_place(cells, labels, k - labels)
-}
-
-// The name in a record, as a number.
-fn key_at(s: &[u8], cells: u16, labels: u16, k: u16) -> u16
-    ensures { result ≡ key_of cells labels s.now k }
-{
-    numbers::read2(s, record_place(cells, labels, k))
-}
-
 // The number of any name of two characters is below this: the second one, which counts 256 times, is at most a `Z`.
 const KEYS: usize = 256 * ((b'Z' as usize) + 1);
 
-// A bad, reserved or repeated name. The names passed are marked, each at its number.
-fn bad_names(s: &[u8]) -> bool
-    requires { bad_trailer s.now ≡ false }
-    ensures { result ≡ any_below (label_count s.now + variable_count s.now) (bad_name s.now) }
-{
-    let cells = image::cell_count(s);
-    let labels = image::label_count(s);
-    let names = labels + image::variable_count(s);
-    let mut seen = [false; KEYS];
-    let mut k: u16 = 0;
-    while k < names {
-        let key = key_at(s, cells, labels, k);
-        if !program::reserved::is_free_name(key) {
-            return true;
-        }
-        let i = key as usize;
-        if seen[i] {
-            return true;
-        }
-        seen[i] = true;
-        k += 1;
-    }
-    false
+// The records of an image, and its counts, read once.
+#[derive(Drop)]
+struct Records<'a> {
+    image: &'a [u8],
+    cells: u16,
+    labels: u16,
+    variables: u16,
+    ghost bytes: { Bytes image.now },
+    ghost cells_counted: { cells ≡ cell_count image.now },
+    ghost labels_counted: { labels ≡ label_count image.now },
+    ghost variables_counted: { variables ≡ variable_count image.now },
 }
 
-// A label target below the one before it, or over the cell count.
-fn bad_target(s: &[u8], cells: u16, k: u16) -> bool
-    ensures { result ≡ bad_target_of cells s.now k }
-{
-    let target = image::target_at(s, cells, k);
-    if k == 0 {
-        return cells < target;
-    }
-    (target < image::target_at(s, cells, k - 1)) | (cells < target)
-}
-
-fn bad_targets(s: &[u8]) -> bool
-    ensures { result ≡ any_below (label_count s.now) (bad_target s.now) }
-{
-    let cells = image::cell_count(s);
-    let labels = image::label_count(s);
-    let mut k: u16 = 0;
-    while k < labels {
-        if bad_target(s, cells, k) {
-            return true;
+impl<'a> Records<'a> {
+    fn of(image: &'a [u8]) -> Self
+        ensures { result.image.now ≡ image.now }
+    {
+        Records {
+            image,
+            cells: image::cell_count(image),
+            labels: image::label_count(image),
+            variables: image::variable_count(image),
         }
-        k += 1;
     }
-    false
-}
 
-// A start value outside its range, or two zeros that are none, in the record at this place.
-fn bad_start(s: &[u8], cells: u16, labels: u16, k: u16) -> bool
-    ensures { result ≡ bad_start_of cells labels s.now k }
-{
-    let place = image::variable_place(cells, labels, k);
-    (numbers::read2(s, place + image::VARIABLE_ZEROS) != 0)
-        | !cells::is_literal(numbers::read4(s, place + image::START_VALUE))
-}
-
-fn bad_starts(s: &[u8]) -> bool
-    ensures { result ≡ any_below (variable_count s.now) (bad_start s.now) }
-{
-    let cells = image::cell_count(s);
-    let labels = image::label_count(s);
-    let variables = image::variable_count(s);
-    let mut k: u16 = 0;
-    while k < variables {
-        if bad_start(s, cells, labels, k) {
-            return true;
+    // Where a name record stands, the labels' first.
+    fn record_place(&self, k: u16) -> usize
+        ensures { result ≡ record_place self.now.image.now k }
+    {
+        if k < self.labels {
+            return image::label_place(self.cells, k);
         }
-        k += 1;
+        image::variable_place(self.cells, self.labels, k - self.labels)
     }
-    false
+
+    // The name in a record, as a number.
+    fn key_at(&self, k: u16) -> u16
+        ensures { result ≡ key_at self.now.image.now k }
+    {
+        numbers::read2(self.image, self.record_place(k))
+    }
+
+    // A bad, reserved or repeated name. The names passed are marked, each at its number.
+    fn bad_names(&self) -> bool
+        requires { bad_trailer self.now.image.now ≡ false }
+        ensures { result ≡ any_below (label_count self.now.image.now + variable_count self.now.image.now) (bad_name self.now.image.now) }
+    {
+        let mut seen = [false; KEYS];
+        for k in 0..self.labels + self.variables {
+            let key = self.key_at(k);
+            if !program::reserved::is_free_name(key) {
+                return true;
+            }
+            let i = key as usize;
+            if seen[i] {
+                return true;
+            }
+            seen[i] = true;
+        }
+        false
+    }
+
+    // A label target below the one before it, or over the cell count.
+    fn bad_target(&self, k: u16) -> bool
+        ensures { result ≡ bad_target self.now.image.now k }
+    {
+        let target = image::target_at(self.image, self.cells, k);
+        if k == 0 {
+            return self.cells < target;
+        }
+        (target < image::target_at(self.image, self.cells, k - 1)) | (self.cells < target)
+    }
+
+    fn bad_targets(&self) -> bool
+        ensures { result ≡ any_below (label_count self.now.image.now) (bad_target self.now.image.now) }
+    {
+        (0..self.labels).any(|k| self.bad_target(k))
+    }
+
+    // A start value outside its range, or two zeros that are none.
+    fn bad_start(&self, k: u16) -> bool
+        ensures { result ≡ bad_start self.now.image.now k }
+    {
+        let place = image::variable_place(self.cells, self.labels, k);
+        (numbers::read2(self.image, place + image::VARIABLE_ZEROS) != 0)
+            | !cells::is_literal(numbers::read4(self.image, place + image::START_VALUE))
+    }
+
+    // Stays: it and `bad_targets` are one line of `any` each, with a count and a test of their own.
+    fn bad_starts(&self) -> bool
+        ensures { result ≡ any_below (variable_count self.now.image.now) (bad_start self.now.image.now) }
+    {
+        (0..self.variables).any(|k| self.bad_start(k))
+    }
 }
 
 fn bad_records(s: &[u8]) -> bool
     requires { bad_trailer s.now ≡ false }
     ensures { result ≡ bad_records s.now }
 {
-    if bad_names(s) {
+    let records = Records::of(s);
+    if records.bad_names() {
         return true;
     }
-    if bad_targets(s) {
+    if records.bad_targets() {
         return true;
     }
-    bad_starts(s)
+    records.bad_starts()
 }
 
-// The lowest refusal of an image; 0 where it is accepted.
+// Accepts an image, or tells its lowest refusal.
+pub fn accept(s: &[u8]) -> Result<(), Refusal>
+    ensures { refusal_number result ≡ checked s.now }
+{
+    if bad_length(s) {
+        return Err(Refusal::BadLength);
+    }
+    if bad_edition(s) {
+        return Err(Refusal::BadEdition);
+    }
+    if bad_trailer(s) {
+        return Err(Refusal::BadTrailer);
+    }
+    if cells::bad_cells(s) {
+        return Err(Refusal::BadCells);
+    }
+    if bad_records(s) {
+        return Err(Refusal::BadRecords);
+    }
+    Ok(())
+}
+
+// The number of the lowest refusal of an image; 0 where it is accepted.
+// Stays: `Checks` (crates/bench/specs/Calls.antt) speaks of this number, and docs/PAPER.md names this contract; `accept` stands beside it.
 pub fn checked(s: &[u8]) -> u8
     ensures { result ≡ checked s.now }
 {
-    if bad_length(s) {
-        return BAD_LENGTH;
+    match accept(s) {
+        Ok(()) => 0,
+        Err(refusal) => refusal.number(),
     }
-    if bad_edition(s) {
-        return BAD_EDITION;
-    }
-    if bad_trailer(s) {
-        return BAD_TRAILER;
-    }
-    if cells::bad_cells(s) {
-        return BAD_CELLS;
-    }
-    if bad_records(s) {
-        return BAD_RECORDS;
-    }
-    0
 }

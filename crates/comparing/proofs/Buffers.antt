@@ -1,6 +1,6 @@
 -- A buffer that is bad, by each of its faults; and what a good one keeps.
 -- Assumes nothing.
-use mathlib.Core.Path.{◌≡◌, ap}
+use mathlib.Core.Path.{◌≡◌, refl, ap}
 use mathlib.Core.Bool.{true, false, ◌||◌, not, or-true}
 use mathlib.Core.List.{List}
 use mathlib.Core.Logic.{◌↔◌}
@@ -12,7 +12,7 @@ use lib.ListN.{length, get_or}
 use Rattle.numbers.specs.Bytes.{field}
 use Rattle.numbers.specs.Tests.{any_below}
 use Rattle.numbers.proofs.Truth.{neither}
-use Rattle.numbers.proofs.Tests.{any_below_lem, no_any, none_below}
+use Rattle.numbers.proofs.Tests.{no_any, none_below}
 use Rattle.events.specs.Events.{event_at, event_count}
 use Rattle.events.proofs.Scripts.{two_bytes}
 use Rattle.comparing.specs.Differences.{bad_record, bad_buffer}
@@ -27,9 +27,9 @@ module _ (s : List ℕ) where
   unfolding bad_buffer
   bad_length_lem o = rw (ne_eqb (length s % 12) 0 o) (or-true (ltb 8192 (event_count s)))
 
-  pub bad_record_lem : (k : ℕ) → k < event_count s → bad_record s k ≡ true → bad_buffer s ≡ true
+  pub as_records : event_count s ≤ 8192 → length s % 12 ≡ 0 → any_below (event_count s) (bad_record s) ≡ bad_buffer s
   unfolding bad_buffer
-  bad_record_lem k h e = rw (any_below_lem (bad_record s) (event_count s) k h e, or-true (not (eqb (length s % 12) 0))) (or-true (ltb 8192 (event_count s)))
+  as_records h e = rw (le-ltb 8192 (event_count s) h, eq-eqb (length s % 12) 0 e) refl
 
   pub no_bad : event_count s ≤ 8192 → length s % 12 ≡ 0 → ((k : ℕ) → k < event_count s → bad_record s k ≡ false) → bad_buffer s ≡ false
   unfolding bad_buffer

@@ -1,7 +1,7 @@
 -- The list as bytes: its length, the entries by their places, and one entry more.
 -- Assumes nothing.
 use mathlib.Core.Path.{◌≡◌, refl, sym, ap, ◌∙◌}
-use mathlib.Core.Bool.{Bool, true, cond}
+use mathlib.Core.Bool.{Bool, true, false, cond, not}
 use mathlib.Core.List.{List, [], ◌∷◌, ◌++◌, flat_map, append_assoc}
 use Prim.Native.Nat.{ℕ, suc, ◌+◌, ◌*◌, ◌-◌, ◌≤◌, ◌<◌, max}
 use native.Mathlib.Nat.{sub-zero}
@@ -9,7 +9,8 @@ use native.Mathlib.Omega.{arith}
 use borrow.Author.Tests.{eq-eqb, ne_eqb}
 use lib.Dec.{eqb}
 use lib.ListN.{length, get_or, drop, length-append}
-use lib.Seq.{drop-drop, sets, length-sets}
+use lib.Seq.{drop-drop, sets}
+use mir.Val.{bool_byte}
 use Rattle.numbers.specs.Bytes.{bytes, field}
 use Rattle.numbers.specs.Tests.{passing}
 use Rattle.numbers.proofs.Laws.{length_bytes, field_back, sets_append, over_front}
@@ -111,9 +112,8 @@ module _ (first second : List ℕ) where
   rest_none end k h = let e : end - k ≡ 0 = omega arith in rw e
 
   -- Counting: an entry more where the sum is not 0.
-  pub count_more : (end k n : ℕ) {sum r : ℕ} → k < end → sum ≡ sum_at first second k → r ≡ weight (eqb sum 0) 1
+  pub count_more : (end k n : ℕ) {sum r : ℕ} → k < end → sum ≡ sum_at first second k → r ≡ bool_byte (not (eqb sum 0))
       → n + length (rest end k) ≡ length (differing first second) → n + r + length (rest end (k + 1)) ≡ length (differing first second)
-  unfolding weight
   count_more end k n {sum} {r} h es er i =
       if_same sum 0
       (λ z.
@@ -140,23 +140,26 @@ module _ (first second : List ℕ) where
 
   pub write_more : (end k at : ℕ) (list : List ℕ) {list₁ : List ℕ} {sum next : ℕ} → k < end → sum ≡ sum_at first second k
       → next ≡ at + weight (eqb sum 0) 8 → list₁ ≡ sets list at (cond (eqb sum 0) [] (entry_bytes k sum))
-      → (sets list₁ next (left end (k + 1)) ≡ sets list at (left end k)) × (length list₁ ≡ length list)
+      → sets list₁ next (left end (k + 1)) ≡ sets list at (left end k)
   unfolding weight flat_map
-  write_more end k at list {list₁} {sum} {next} h es en el = (
-    if_same sum 0
-        (λ z.
-        let e : next ≡ at = en ∙ rw (eq-eqb sum 0 z) (omega arith) in
-        let l : list₁ ≡ list = el ∙ rw (eq-eqb sum 0 z) refl in
-        rw (e, l, rest_same end k h (sym es ∙ z)) refl)
-        (λ o.
-        let e : next ≡ at + 8 = en ∙ rw (ne_eqb sum 0 o) refl in
-        let l : list₁ ≡ sets list at (entry_of first second k) = el ∙ rw (ne_eqb sum 0 o, es) refl in
-        rw (e, l, rest_other end k h (λ z. o (es ∙ z)), sets_append (entry_of first second k) list at (left end (k + 1)), entry_length first second k) refl),
-    ap length el ∙ length-sets list at (cond (eqb sum 0) [] (entry_bytes k sum)),
-  )
+  write_more end k at list {list₁} {sum} {next} h es en el =
+      if_same sum 0
+      (λ z.
+      let e : next ≡ at = en ∙ rw (eq-eqb sum 0 z) (omega arith) in
+      let l : list₁ ≡ list = el ∙ rw (eq-eqb sum 0 z) refl in
+      rw (e, l, rest_same end k h (sym es ∙ z)) refl)
+      (λ o.
+      let e : next ≡ at + 8 = en ∙ rw (ne_eqb sum 0 o) refl in
+      let l : list₁ ≡ sets list at (entry_of first second k) = el ∙ rw (ne_eqb sum 0 o, es) refl in
+      rw (e, l, rest_other end k h (λ z. o (es ∙ z)), sets_append (entry_of first second k) list at (left end (k + 1)), entry_length first second k) refl)
 
   pub write_end : (end k at : ℕ) (list : List ℕ) {whole : List ℕ} → end ≤ k → sets list at (left end k) ≡ whole → list ≡ whole
   write_end end k at list h i = sym (ap (sets list at) (left_none end k h)) ∙ i
+
+-- A number more or none.
+pub one_most : (t : Bool) {r : ℕ} → r ≡ bool_byte t → r ≤ 1
+one_most true e = omega (arith, e)
+one_most false e = omega (arith, e)
 
 -- The place behind an entry.
 pub write_next : (t : Bool) (at k : ℕ) {next : ℕ} → next ≡ at + weight t 8 → at ≤ 8 * k → next ≤ 8 * (k + 1)

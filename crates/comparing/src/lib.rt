@@ -5,12 +5,13 @@ ghost use Rattle.std.specs.Prelude.{◌≡◌, cond, [], ◌+◌, ◌≤◌, ◌
 ghost use Rattle.std.proofs.lemmas.List.Edits.{sets};
 ghost use Rattle.events.specs.Events.{event_count};
 ghost use Rattle.comparing.specs.Differences.{bad_record, bad_buffer, weight, field_sum, sum_at, differing, entry_bytes, differences};
-ghost use Rattle.comparing.specs.Calls.{compare_answered, Compares};
+ghost use Rattle.comparing.specs.Calls.{compare_answer, Compares};
 
 use events::Event;
 use events::script::{SIZE, event_count, whole_event};
 
 // Number 0, and how many entries the list has; or the refusal.
+// Stays: `Request4` (specs/Requests.antt) speaks of both fields of each answer, over any comparer; `list_entries` has the Result.
 #[derive(Clone, Copy)]
 pub struct Compared {
     pub number: u8,
@@ -28,6 +29,7 @@ pub const ENTRY: usize = 8;
 pub const SUM: usize = 4;
 
 // What the sum is of; or which buffer alone has the record.
+// Stays: bytes of a list: `field_sum` and `sum_at` (specs/Differences.antt) say the sum by these numbers.
 pub const TURN: u32 = 1;
 
 pub const KIND: u32 = 2;
@@ -40,12 +42,16 @@ pub const FIRST_ONLY: u32 = 16;
 
 pub const SECOND_ONLY: u32 = 32;
 
-// The refusals.
-pub const BAD_FIRST: u8 = 51;
+// Why a call is refused, by the number of its answer.
+#[derive(Clone, Copy)]
+enum Refusal {
+    BadFirst = 51,
+    BadSecond = 52,
+    ShortList = 53,
+}
 
-const BAD_SECOND: u8 = 52;
-
-const SHORT_LIST: u8 = 53;
+// The number that tells of the first buffer.
+pub const BAD_FIRST: u8 = Refusal::BadFirst as u8;
 
 // A record with other bytes than zeros where these have to be.
 fn is_bad_record(s: &[u8], k: usize) -> bool
@@ -67,14 +73,7 @@ fn is_bad(s: &[u8]) -> bool
     if s.len() % SIZE != 0 {
         return true;
     }
-    let mut k = 0;
-    while k < count {
-        if is_bad_record(s, k) {
-            return true;
-        }
-        k += 1;
-    }
-    false
+    (0..count).any(|k| is_bad_record(s, k))
 }
 
 // What a field adds to the sum.
@@ -95,44 +94,6 @@ fn field_sum(a: Event, b: Event) -> u32
     turn + (kind + (number + value))
 }
 
-// The sum of a record number.
-fn sum_at(first: &[u8], second: &[u8], k: usize) -> u32
-    requires { (event_count first.now ≤ 8192) × (event_count second.now ≤ 8192) }
-    ensures { result ≡ sum_at first.now second.now k }
-{
-    if event_count(second) <= k {
-        return FIRST_ONLY;
-    }
-    if event_count(first) <= k {
-        return SECOND_ONLY;
-    }
-    field_sum(whole_event(first, k), whole_event(second, k))
-}
-
-// How many record numbers there are: as many as the longer buffer has records.
-fn longer(first: &[u8], second: &[u8]) -> usize
-    ensures { result ≡ max (event_count first.now) (event_count second.now) }
-{
-    let n = event_count(first);
-    let m = event_count(second);
-    if n < m { m } else { n }
-}
-
-// How many entries the list has.
-fn count(first: &[u8], second: &[u8]) -> usize
-    requires { (event_count first.now ≤ 8192) × (event_count second.now ≤ 8192) }
-    ensures { (result ≡ length (differing first.now second.now)) × (result ≤ 8192) }
-{
-    let end = longer(first, second);
-    let mut entries = 0;
-    let mut k = 0;
-    while k < end {
-        entries += weight(sum_at(first, second, k) == 0, 1) as usize;
-        k += 1;
-    }
-    entries
-}
-
 // The entry of a record number goes to the list, where it has one. The place behind it is handed back.
 fn write_entry(list: &mut [u8], at: usize, k: u32, sum: u32) -> usize
     requires { at ≤ 65536 }
@@ -145,40 +106,87 @@ fn write_entry(list: &mut [u8], at: usize, k: u32, sum: u32) -> usize
     at + ENTRY
 }
 
-// Writes the list. What falls past the end of its buffer is not written.
-fn write(first: &[u8], second: &[u8], list: &mut [u8])
-    requires { (event_count first.now ≤ 8192) × (event_count second.now ≤ 8192) }
-    ensures { list.new ≡ sets list.old 0 (differences first.now second.now) }
-{
-    let end = longer(first, second);
-    let mut at = 0;
-    let mut k = 0;
-    while k < end {
-        at = write_entry(list, at, k as u32, sum_at(first, second, k));
-        k += 1;
+// Two buffers of records, neither with more of them than a buffer may have.
+#[derive(Clone, Copy)]
+struct Sides<'a> {
+    first: &'a [u8],
+    second: &'a [u8],
+    ghost short: { (event_count first.now ≤ 8192) × (event_count second.now ≤ 8192) },
+}
+
+impl Sides<'_> {
+    // The sum of a record number.
+    fn sum_at(self, k: usize) -> u32
+        ensures { result ≡ sum_at self.entry.first.now self.entry.second.now k }
+    {
+        if event_count(self.second) <= k {
+            return FIRST_ONLY;
+        }
+        if event_count(self.first) <= k {
+            return SECOND_ONLY;
+        }
+        field_sum(whole_event(self.first, k), whole_event(self.second, k))
+    }
+
+    // How many record numbers there are: as many as the longer buffer has records.
+    fn longer(self) -> usize
+        ensures { result ≡ max (event_count self.entry.first.now) (event_count self.entry.second.now) }
+    {
+        event_count(self.first).max(event_count(self.second))
+    }
+
+    // How many entries the list has.
+    fn count(self) -> usize
+        ensures { (result ≡ length (differing self.entry.first.now self.entry.second.now)) × (result ≤ 8192) }
+    {
+        let end = self.longer();
+        let mut entries = 0;
+        for k in 0..end {
+            entries += usize::from(self.sum_at(k) != 0);
+        }
+        entries
+    }
+
+    // Writes the list. What falls past the end of its buffer is not written.
+    fn write(self, list: &mut [u8])
+        ensures { list.new ≡ sets list.old 0 (differences self.entry.first.now self.entry.second.now) }
+    {
+        let end = self.longer();
+        let mut at = 0;
+        for k in 0..end {
+            at = write_entry(list, at, k as u32, self.sum_at(k));
+        }
     }
 }
 
-fn refused(number: u8) -> Compared
-    ensures { result ≡ compare_answered number 0 }
+// How many entries go to the list, one for each number at which the records are not the same, or a buffer lacks one.
+fn list_entries(first: &[u8], second: &[u8], list: &mut [u8]) -> Result<usize, Refusal>
+    ensures { Compares first.now second.now list.old (compare_answer result) list.new }
 {
-    Compared { number, entries: 0 }
+    if is_bad(first) {
+        return Err(Refusal::BadFirst);
+    }
+    if is_bad(second) {
+        return Err(Refusal::BadSecond);
+    }
+    let sides = Sides { first, second };
+    let entries = sides.count();
+    if list.len() < ENTRY * entries {
+        return Err(Refusal::ShortList);
+    }
+    sides.write(list);
+    Ok(entries)
 }
 
-// Compares two record buffers: an entry goes to the list for each number at which the records are not the same, or a buffer lacks one.
+// Compares two record buffers: the list of what they differ in goes to its buffer.
 pub fn compare(first: &[u8], second: &[u8], list: &mut [u8]) -> Compared
     ensures { Compares first.now second.now list.old result list.new }
 {
-    if is_bad(first) {
-        return refused(BAD_FIRST);
+    match list_entries(first, second, list) {
+        Ok(entries) => Compared { number: 0, entries },
+        Err(refusal) => Compared {
+            number: refusal as u8,
+            entries: 0,
+        },
     }
-    if is_bad(second) {
-        return refused(BAD_SECOND);
-    }
-    let entries = count(first, second);
-    if list.len() < ENTRY * entries {
-        return refused(SHORT_LIST);
-    }
-    write(first, second, list);
-    Compared { number: 0, entries }
 }

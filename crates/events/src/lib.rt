@@ -5,6 +5,7 @@ pub mod records;
 pub mod script;
 
 // One event of a script.
+// Stays: the kind is a byte of a script, and any may stand there: `good_event` and `bad_event` (specs/Events.antt) speak of each.
 #[derive(Clone, Copy)]
 pub struct Event {
     pub turn: u32,
@@ -15,6 +16,7 @@ pub struct Event {
 }
 
 // What a turn records: kind 0 is nothing.
+// Stays: the theorems `record_length` (proofs/Written.antt, `crates/rules/proofs/Never.antt`) speak of each kind, 0 too, and a move brings its own.
 #[derive(Clone, Copy)]
 pub struct Record {
     pub kind: u8,

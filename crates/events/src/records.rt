@@ -8,6 +8,7 @@ use crate::script::{KIND, NUMBER, SIZE, VALUE, ZEROS};
 
 impl Record {
     // The kinds: an output was written, the axis slews, a value was printed, an error came. Those of a move come with its effect.
+    // Stays: bytes of a record, by `record_bytes` (specs/Events.antt).
     pub const OUTPUT: u8 = 1;
 
     pub const SLEWS: u8 = 4;
@@ -25,10 +26,10 @@ pub fn write_record(b: &mut [u8], at: usize, turn: u32, r: Record) -> usize
     if r.kind == 0 {
         return at;
     }
-    numbers::write(b, at, 4, turn as u64);
-    numbers::write(b, at + KIND, 1, r.kind as u64);
-    numbers::write(b, at + NUMBER, 1, r.number as u64);
+    numbers::write(b, at, 4, u64::from(turn));
+    numbers::write(b, at + KIND, 1, u64::from(r.kind));
+    numbers::write(b, at + NUMBER, 1, u64::from(r.number));
     numbers::write(b, at + ZEROS, 2, 0);
-    numbers::write(b, at + VALUE, 4, numbers::digits(r.value) as u64);
+    numbers::write(b, at + VALUE, 4, u64::from(numbers::digits(r.value)));
     at + SIZE
 }

@@ -21,6 +21,7 @@ pub const VALUE: usize = 8;
 
 impl Event {
     // The kinds: an input takes a value, a move arrives, the axis is at a place.
+    // Stays: bytes of an event, by `good_event` (specs/Events.antt).
     pub const INPUT: u8 = 1;
 
     pub const ARRIVAL: u8 = 2;
@@ -38,7 +39,7 @@ impl Event {
         ensures { result ≡ (eqb self.kind 1 && ((leb 1 self.number && leb self.number 4) && between (pos 0) (pos 1) self.value)) }
     {
         let value = self.value;
-        let fits = Variable(Variable::I1).range(0, 0).holds(value as i64);
+        let fits = Variable(Variable::I1).range(0, 0).holds(i64::from(value));
         (self.kind == Self::INPUT) & (((1 <= self.number) & (self.number <= Self::INPUTS)) & fits)
     }
 
@@ -55,7 +56,7 @@ impl Event {
         ensures { result ≡ (eqb self.kind 3 && (eqb self.number 0 && in_range literals self.value)) }
     {
         let value = self.value;
-        let known = Variable::literals().holds(value as i64);
+        let known = Variable::literals().holds(i64::from(value));
         (self.kind == Self::PLACE) & ((self.number == 0) & known)
     }
 
@@ -75,53 +76,20 @@ pub fn event_at(s: &[u8], k: usize) -> Event
     let at = SIZE * k;
     Event {
         turn: numbers::read4(s, at),
-        kind: numbers::read(s, at + KIND, 1) as u8,
-        number: numbers::read(s, at + NUMBER, 1) as u8,
+        kind: s.get(at + KIND).copied().unwrap_or(0),
+        number: s.get(at + NUMBER).copied().unwrap_or(0),
         zeros: numbers::read2(s, at + ZEROS),
         value: numbers::signed(numbers::read4(s, at + VALUE)),
     }
 }
 
-fn wide(b: u8) -> u32
-    ensures { (result ≡ b) × (result < 256) }
-{
-    b as u32
-}
-
-// The number in two bytes and in four that are there, the lowest first.
-fn two(s: &[u8], from: usize) -> u16
-    requires { from + 2 ≤ length s.now }
-    ensures { result ≡ field 2 from s.now }
-{
-    let a = wide(s[from]);
-    let b = wide(s[from + 1]);
-    (a + 256 * b) as u16
-}
-
-fn four(s: &[u8], from: usize) -> u32
-    requires { from + 4 ≤ length s.now }
-    ensures { result ≡ field 4 from s.now }
-{
-    let a = wide(s[from]);
-    let b = wide(s[from + 1]);
-    let c = wide(s[from + 2]);
-    let d = wide(s[from + 3]);
-    a + 256 * (b + 256 * (c + 256 * d))
-}
-
-// The same of an event that is there: its bytes are read as they stand.
+// The same of an event that is there.
+// Stays: it asks that the event is there, as its callers know; `event_at` answers for zeros behind the end too.
 pub fn whole_event(s: &[u8], k: usize) -> Event
     requires { (k < event_count s.now) × (event_count s.now ≤ 8192) }
     ensures { result ≡ event_at s.now k }
 {
-    let at = SIZE * k;
-    Event {
-        turn: four(s, at),
-        kind: s[at + KIND],
-        number: s[at + NUMBER],
-        zeros: two(s, at + ZEROS),
-        value: numbers::signed(four(s, at + VALUE)),
-    }
+    event_at(s, k)
 }
 
 // How many events the script has.
@@ -139,6 +107,7 @@ pub fn is_bad_script(s: &[u8]) -> bool
 }
 
 // A bad event, or one whose turn is below that of the one before.
+// Stays: docs/PAPER.md names the contracts of this and of `first_bad_event`, and a type for a script of few events would ask more of a caller than bytes.
 pub fn is_bad_event(s: &[u8], k: usize) -> bool
     requires { (k < event_count s.now) × (event_count s.now ≤ 4096) }
     ensures { result ≡ bad_event s.now k }
@@ -152,17 +121,16 @@ pub fn is_bad_event(s: &[u8], k: usize) -> bool
 }
 
 // The number of the first bad event; the number of events where none is bad.
+// Stays: how many events there are, where none is bad, is the answer of `first_bad_event` (specs/Events.antt), and docs/PAPER.md names the contract.
 pub fn first_bad_event(s: &[u8]) -> usize
     requires { event_count s.now ≤ 4096 }
     ensures { result ≡ first_bad_event s.now }
 {
     let count = event_count(s);
-    let mut k = 0;
-    while k < count {
+    for k in 0..count {
         if is_bad_event(s, k) {
             return k;
         }
-        k += 1;
     }
-    k
+    count
 }

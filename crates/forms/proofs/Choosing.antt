@@ -1,26 +1,29 @@
 -- The form that is chosen by the first two tokens and by how many there are is the only one that they may fill.
 -- Assumes nothing.
 use mathlib.Core.Path.{◌≡◌, refl, sym, ap, subst, ◌∙◌}
-use mathlib.Core.Bool.{Bool, true, false, cond, ◌&&◌, ◌||◌, not, true≢false, and-eq-true_iff}
+use mathlib.Core.Bool.{Bool, true, false, cond, true≢false}
 use mathlib.Core.List.{List, [], ◌∷◌}
 use Prim.Native.Nat.{ℕ, ◌+◌, ◌≤◌, ◌<◌}
 use native.Mathlib.Omega.{arith}
-use borrow.Author.Tests.{eqb-true, eqb-false, ne_eqb, lt-ltb, le-ltb, ltb-true, not-true}
-use lib.Dec.{T, eqb, ltb}
+use borrow.Author.Tests.{eqb-true, ne_eqb, lt-ltb, le-ltb}
+use lib.Dec.{eqb}
 use Rattle.numbers.specs.Bytes.{ascii}
 use Rattle.numbers.specs.Tests.{eq_list, numbered}
-use Rattle.numbers.proofs.Truth.{is_true, eqb_turn, if_below, of_both}
+use Rattle.numbers.proofs.Truth.{eqb_turn, if_below, of_both}
 use Rattle.numbers.proofs.Lists.{EachFrom, each_from}
 use Rattle.program.specs.Names.{letter, digit, word_character, mnemonics, variable_names, paper_variable, paper_word, two_characters, user_name}
 use Rattle.program.specs.Code.{name_of}
 use Rattle.text.specs.Forms.{variable_name}
 use Rattle.text.specs.Code.{token_at}
-use Rattle.forms.specs.Code.{no_match, fits_by, kept_by, word_by, found_by, value_by, slot_by, fill_by, slot_table, slots_of, first_form, longer_by, form_for}
+use Rattle.std.specs.Prelude.{Option, Some, None, IfSome}
+use Rattle.std.proofs.lemmas.Option.{none-some, cond_some}
+use Rattle.forms.specs.Code.{no_match, onward, with_name, with_written, word_by, slot_by, is_end, fill_by, slot_table, slots_of, first_form, longer_by, form_for}
 use Rattle.text.specs.declared.tokens.Token.{Token}
 use Rattle.text.specs.declared.tokens.Tokens.{Tokens}
 use Rattle.forms.specs.declared.Match.{Match}
-use Rattle.forms.proofs.Matching.{fill_stop, found_used, kept_place}
-use Rattle.forms.proofs.Filling.{slot_fixed}
+use Rattle.forms.specs.declared.Slot.{Slot}
+use Rattle.forms.specs.declared.Slot.TheVariants as S
+use Rattle.forms.proofs.Matching.{least, width, Moves, slot_moves, fill_step, then}
 
 -- It is one of the 21.
 abbrev IsForm : ℕ → Type 0
@@ -55,65 +58,47 @@ form_below first second count = pick (first_form first) (first_below_lem first)
         if_below 15 form (λ l. rw (not_longer form second count l) h)
         (λ l. of_both IsForm (longer_by form second count) (omega arith) h)
 
--- A slot that takes something takes at least one token, and an operand at most two.
-width : ℕ → ℕ
-width s = cond ((eqb s 4 || eqb s 5) || eqb s 6) 2 1
-
-slot_takes : (m : Match) (s : ℕ) (t u : Token) → (slot_by m s t u).ok ≡ true → (m.place + 1 ≤ (slot_by m s t u).place) × ((slot_by m s t u).place ≤ m.place + width s)
-unfolding slot_by value_by word_by width
-slot_takes m s t u = pick ((eqb s 4 || eqb s 5) || eqb s 6)
-  where
-    pick : (v : Bool) → (cond v (value_by m s (found_by s t u)) (word_by m s t.key)).ok ≡ true
-        → (m.place + 1 ≤ (cond v (value_by m s (found_by s t u)) (word_by m s t.key)).place)
-        × ((cond v (value_by m s (found_by s t u)) (word_by m s t.key)).place ≤ m.place + cond v 2 1)
-    pick true e =
-        let n = eqb-false (found_by s t u).used 0 (not-true _ ((and-eq-true_iff m.ok (not (eqb (found_by s t u).used 0))).0 e).1) in
-        (omega (arith, n), omega (arith, found_used s t u))
-    pick false e = let p = kept_place m s t.key in (omega (arith, p), omega (arith, p))
-
 -- The fewest and the most tokens of a form.
-fewest : List ℕ → ℕ
+fewest : List Slot → ℕ
 fewest [] = 0
-fewest (s ∷ ss) = cond (eqb s 0) 0 (1 + fewest ss)
+fewest (s ∷ ss) = cond (is_end s) 0 (1 + fewest ss)
 
-most : List ℕ → ℕ
+most : List Slot → ℕ
 most [] = 0
-most (s ∷ ss) = cond (eqb s 0) 0 (width s + most ss)
+most (s ∷ ss) = cond (is_end s) 0 (width s + most ss)
+
+-- What the first of some slots took, and that the others go on from there.
+record Stepped (at : List Token) (m : Match) (s : Slot) (ss : List Slot) (r : Match) : Type 0 where
+  n : Match
+  took : slot_by m s (token_at at m.place) (token_at at (m.place + 1)) ≡ Some n
+  more : fill_by ss at n ≡ Some r
+
+stepped : (at : List Token) (s : Slot) (ss : List Slot) (m r : Match) → is_end s ≡ false → fill_by (s ∷ ss) at m ≡ Some r → Stepped at m s ss r
+stepped at s ss m r z e = pick (slot_by m s (token_at at m.place) (token_at at (m.place + 1))) refl (sym (fill_step at m s ss z) ∙ e)
+  where
+    pick : (o : Option Match) → slot_by m s (token_at at m.place) (token_at at (m.place + 1)) ≡ o → then at m ss o ≡ Some r → Stepped at m s ss r
+    pick None f g = absurd (none-some r g)
+    pick (Some n) f g = record { n = n; took = f; more = g }
+
+word_fits : (b : Bool) (m n : Match) → word_by b m ≡ Some n → (b ≡ true) × (onward m 1 ≡ n)
+unfolding word_by
+word_fits b m n e = cond_some b (onward m 1) n e
 
 module _ (at : List Token) where
-  ok_before : (ss : List ℕ) (m : Match) → (fill_by ss at m).ok ≡ true → m.ok ≡ true
-  ok_before ss m e = pick m.ok refl
+  fill_moves : (ss : List Slot) (m : Match) → IfSome (fill_by ss at m) (Moves m (fewest ss) (most ss))
+  unfolding fill_by fewest most least
+  fill_moves [] m = (omega arith, omega arith)
+  fill_moves (s ∷ ss) m = pick (is_end s) (slot_by m s (token_at at m.place) (token_at at (m.place + 1))) (slot_moves m s (token_at at m.place) (token_at at (m.place + 1))) (λ n. fill_moves ss n)
     where
-      pick : (b : Bool) → m.ok ≡ b → m.ok ≡ true
-      pick true f = f
-      pick false f = absurd (true≢false (sym e ∙ ap (λ (x : Match). x.ok) (fill_stop at m ss f) ∙ f))
+      wider : (n : Match) (o : Option Match) → Moves m 1 (width s) n → IfSome o (Moves n (fewest ss) (most ss)) → IfSome o (Moves m (1 + fewest ss) (width s + most ss))
+      wider n None h k = tt
+      wider n (Some r) h k = (omega (arith, h.0, k.0), omega (arith, h.1, k.1))
 
-  -- What is left to fill behind a slot.
-  abbrev behind : Match → ℕ → Match
-  behind m s = slot_by m s (token_at at m.place) (token_at at (m.place + 1))
-
-  fill_next : (s : ℕ) (ss : List ℕ) (m : Match) → eqb s 0 ≡ false → (fill_by (s ∷ ss) at m).ok ≡ true → fill_by (s ∷ ss) at m ≡ fill_by ss at (behind m s)
-  unfolding fill_by
-  fill_next s ss m z e = rw (z, ok_before (s ∷ ss) m e)
-
-  next_ok : (s : ℕ) (ss : List ℕ) (m : Match) → eqb s 0 ≡ false → (fill_by (s ∷ ss) at m).ok ≡ true → (fill_by ss at (behind m s)).ok ≡ true
-  next_ok s ss m z e = sym (ap (λ (x : Match). x.ok) (fill_next s ss m z e)) ∙ e
-
-  fill_takes : (ss : List ℕ) (m : Match) → (fill_by ss at m).ok ≡ true → (m.place + fewest ss ≤ (fill_by ss at m).place) × ((fill_by ss at m).place ≤ m.place + most ss)
-  unfolding fill_by fewest most
-  fill_takes [] m e = (omega arith, omega arith)
-  fill_takes (s ∷ ss) m e = pick (eqb s 0) refl (λ f. fill_takes ss (behind m s) f)
-    where
-      pick : (z : Bool) → eqb s 0 ≡ z
-          → ((fill_by ss at (behind m s)).ok ≡ true → ((behind m s).place + fewest ss ≤ (fill_by ss at (behind m s)).place) × ((fill_by ss at (behind m s)).place ≤ (behind m s).place + most ss))
-          → (m.place + cond z 0 (1 + fewest ss) ≤ (fill_by (s ∷ ss) at m).place) × ((fill_by (s ∷ ss) at m).place ≤ m.place + cond z 0 (width s + most ss))
-      pick true z more = rw z (omega arith, omega arith)
-      pick false z more =
-          let f = next_ok s ss m z e in
-          let n = behind m s in
-          let p = slot_takes m s (token_at at m.place) (token_at at (m.place + 1)) (ok_before ss n f) in
-          let q = more f in
-          rw (fill_next s ss m z e) (omega (arith, p.0, q.0), omega (arith, p.1, q.1))
+      pick : (z : Bool) (o : Option Match) → IfSome o (Moves m (cond z 0 1) (width s)) → ((n : Match) → IfSome (fill_by ss at n) (Moves n (fewest ss) (most ss)))
+          → IfSome (cond z (Some m) (then at m ss o)) (Moves m (cond z 0 (1 + fewest ss)) (cond z 0 (width s + most ss)))
+      pick true o h ih = (omega arith, omega arith)
+      pick false None h ih = tt
+      pick false (Some n) h ih = wider n (fill_by ss at n) h (ih n)
 
 module _ (ts : Tokens) where
   abbrev first : ℕ
@@ -123,33 +108,29 @@ module _ (ts : Tokens) where
   second = (token_at ts.at 1).key
 
   -- The tokens fill these slots, and none is left.
-  abbrev pub Fits : List ℕ → Type 0
-  Fits ss = ((fill_by ss ts.at no_match).ok && eqb (fill_by ss ts.at no_match).place ts.count) ≡ true
+  abbrev pub Fits : List Slot → Match → Type 0
+  Fits ss m = (fill_by ss ts.at no_match ≡ Some m) × (m.place ≡ ts.count)
 
-  all_ok : (ss : List ℕ) → Fits ss → (fill_by ss ts.at no_match).ok ≡ true
-  all_ok ss h = ((and-eq-true_iff (fill_by ss ts.at no_match).ok (eqb (fill_by ss ts.at no_match).place ts.count)).0 h).0
-
-  counted : (ss : List ℕ) → Fits ss → (fewest ss ≤ ts.count) × (ts.count ≤ most ss)
-  counted ss h =
-      let m = fill_by ss ts.at no_match in
-      let p = (and-eq-true_iff m.ok (eqb m.place ts.count)).0 h in
-      let b = fill_takes ts.at ss no_match p.0 in
-      let e = eqb-true m.place ts.count p.1 in
-      (omega (arith, e, b.0), omega (arith, e, b.1))
+  counted : (ss : List Slot) (m : Match) → Fits ss m → (fewest ss ≤ ts.count) × (ts.count ≤ most ss)
+  counted ss m h =
+      let b : IfSome (Some m) (Moves no_match (fewest ss) (most ss)) = subst (λ o. IfSome o (Moves no_match (fewest ss) (most ss))) h.0 (fill_moves ts.at ss no_match) in
+      (omega (arith, h.1, b.0), omega (arith, h.1, b.1))
 
   -- The first slot takes the very characters of a key; or a variable.
-  keyed : (k : ℕ) (ss : List ℕ) → T (ltb 8 k) → Fits (k ∷ ss) → first ≡ k
-  keyed k ss t h =
-      let l : 8 < k = ltb-true 8 k (is_true (ltb 8 k) t) in
-      let e = ok_before ts.at ss (behind ts.at no_match k) (next_ok ts.at k ss no_match (ne_eqb k 0 (λ e. omega arith)) (all_ok (k ∷ ss) h)) in
-      sym (eqb-true k first (sym (ap (λ (x : Match). x.ok) (slot_fixed no_match k (token_at ts.at 0) (token_at ts.at 1) l)) ∙ e))
+  keyed : (k : ℕ) (ss : List Slot) (m : Match) → Fits (S.Is k ∷ ss) m → first ≡ k
+  unfolding slot_by is_end
+  keyed k ss m h =
+      let s = stepped ts.at (S.Is k) ss no_match m refl h.0 in
+      sym (eqb-true k first (word_fits (eqb k first) no_match s.n s.took).0)
 
-  written : (ss : List ℕ) → Fits (3 ∷ ss) → variable_name (name_of first) ≡ true
-  unfolding slot_by word_by kept_by fits_by
-  written ss h = ok_before ts.at ss (behind ts.at no_match 3) (next_ok ts.at 3 ss no_match refl (all_ok (3 ∷ ss) h))
+  written : (ss : List Slot) (m : Match) → Fits (S.Written ∷ ss) m → variable_name (name_of first) ≡ true
+  unfolding slot_by is_end
+  written ss m h =
+      let s = stepped ts.at S.Written ss no_match m refl h.0 in
+      (word_fits (variable_name (name_of first)) (with_written no_match first) s.n s.took).0
 
-  by_key : (k : ℕ) (ss : List ℕ) {f : ℕ} → T (ltb 8 k) → Fits (k ∷ ss) → form_for k second ts.count ≡ f → form_for first second ts.count ≡ f
-  by_key k ss {f} t h e = subst (λ (x : ℕ). form_for x second ts.count ≡ f) (sym (keyed k ss t h)) e
+  by_key : (k : ℕ) (ss : List Slot) (m : Match) {f : ℕ} → Fits (S.Is k ∷ ss) m → form_for k second ts.count ≡ f → form_for first second ts.count ≡ f
+  by_key k ss m {f} h e = subst (λ (x : ℕ). form_for x second ts.count ≡ f) (sym (keyed k ss m h)) e
 
   -- No mnemonic is a variable, so that an assignment is told from all else.
   unlike : (k : ℕ) → variable_name (name_of k) ≡ false → variable_name (name_of first) ≡ true → eqb first k ≡ false
@@ -175,73 +156,77 @@ module _ (ts : Tokens) where
         unlike 21072 refl h,
       )
 
-  assigned : (ss : List ℕ) {f : ℕ} → Fits (3 ∷ ss) → cond (longer_by 3 second ts.count) 4 3 ≡ f → form_for first second ts.count ≡ f
+  assigned : (ss : List Slot) (m : Match) {f : ℕ} → Fits (S.Written ∷ ss) m → cond (longer_by 3 second ts.count) 4 3 ≡ f → form_for first second ts.count ≡ f
   unfolding form_for
-  assigned ss h e = rw (assigns (written ss h)) e
+  assigned ss m h e = rw (assigns (written ss m h)) e
 
   -- What follows OE: a label, or `0`.
-  second_ok : (s : ℕ) (ss : List ℕ) → eqb s 0 ≡ false → Fits (17743 ∷ s ∷ ss) → (behind ts.at (behind ts.at no_match 17743) s).ok ≡ true
-  second_ok s ss z h =
-      let m = behind ts.at no_match 17743 in
-      ok_before ts.at ss (behind ts.at m s) (next_ok ts.at s ss m z (next_ok ts.at 17743 (s ∷ ss) no_match refl (all_ok (17743 ∷ s ∷ ss) h)))
+  targeted : (ss : List Slot) (m : Match) → Fits (S.Is 17743 ∷ S.Target ∷ ss) m → eqb second 48 ≡ false
+  unfolding slot_by is_end user_name two_characters paper_word numbered letter digit word_character name_of
+  targeted ss m h =
+      let a = stepped ts.at (S.Is 17743) (S.Target ∷ ss) no_match m refl h.0 in
+      let b = stepped ts.at S.Target ss a.n m refl a.more in
+      let p = ap (λ (x : Match). x.place) (word_fits (eqb 17743 first) no_match a.n a.took).1 in
+      let k = (token_at ts.at a.n.place).key in
+      let w = (word_fits (user_name (name_of k)) (with_name a.n k) b.n b.took).0 in
+      let u : user_name (name_of second) ≡ true = ap (λ (i : ℕ). user_name (name_of (token_at ts.at i).key)) p ∙ w in
+      ne_eqb second 48 (λ e. true≢false (sym u ∙ ap (λ (x : ℕ). user_name (name_of x)) e))
 
-  targeted : (ss : List ℕ) → Fits (17743 ∷ 2 ∷ ss) → eqb second 48 ≡ false
-  unfolding slot_by word_by kept_by fits_by user_name two_characters paper_word numbered letter digit word_character name_of
-  targeted ss h =
-      ne_eqb second 48
-      (λ e. true≢false (sym ((and-eq-true_iff (eqb 17743 first) (user_name (name_of second))).0 (second_ok 2 ss refl h)).1 ∙ ap (λ (x : ℕ). user_name (name_of x)) e))
-
-  disarmed : (ss : List ℕ) → Fits (17743 ∷ 48 ∷ ss) → eqb second 48 ≡ true
-  unfolding slot_by word_by kept_by fits_by
-  disarmed ss h = eqb_turn second 48 ∙ ((and-eq-true_iff (eqb 17743 first) (eqb 48 second)).0 (second_ok 48 ss refl h)).1
+  disarmed : (ss : List Slot) (m : Match) → Fits (S.Is 17743 ∷ S.Is 48 ∷ ss) m → eqb second 48 ≡ true
+  unfolding slot_by is_end
+  disarmed ss m h =
+      let a = stepped ts.at (S.Is 17743) (S.Is 48 ∷ ss) no_match m refl h.0 in
+      let b = stepped ts.at (S.Is 48) ss a.n m refl a.more in
+      let p = ap (λ (x : Match). x.place) (word_fits (eqb 17743 first) no_match a.n a.took).1 in
+      eqb_turn second 48 ∙ ap (λ (i : ℕ). eqb 48 (token_at ts.at i).key) p ∙ (word_fits (eqb 48 (token_at ts.at a.n.place).key) a.n b.n b.took).0
 
   -- Each form in turn.
   abbrev Only : ℕ → Type 0
-  Only f = Fits (slots_of f) → form_for first second ts.count ≡ f
+  Only f = (m : Match) → Fits (slots_of f) m → form_for first second ts.count ≡ f
 
   each : EachFrom Only 0 21
-  unfolding slots_of slot_table form_for first_form fewest most width
+  unfolding slots_of slot_table form_for first_form fewest most width is_end
   each = (
-    λ h. by_key 16972 _ tt h refl,
+    λ m h. by_key 16972 _ m h refl,
     (
-      λ h. by_key 16726 _ tt h (rw (le-ltb 2 ts.count (counted _ h).1)),
+      λ m h. by_key 16726 _ m h (rw (le-ltb 2 ts.count (counted _ m h).1)),
       (
-        λ h. by_key 16726 _ tt h (rw (lt-ltb 2 ts.count (omega (arith, (counted _ h).0)))),
+        λ m h. by_key 16726 _ m h (rw (lt-ltb 2 ts.count (omega (arith, (counted _ m h).0)))),
         (
-          λ h. assigned _ h (rw (le-ltb 4 ts.count (counted _ h).1)),
+          λ m h. assigned _ m h (rw (le-ltb 4 ts.count (counted _ m h).1)),
           (
-            λ h. assigned _ h (rw (lt-ltb 4 ts.count (omega (arith, (counted _ h).0)))),
+            λ m h. assigned _ m h (rw (lt-ltb 4 ts.count (omega (arith, (counted _ m h).0)))),
             (
-              λ h. by_key 17225 _ tt h refl,
+              λ m h. by_key 17225 _ m h refl,
               (
-                λ h. by_key 17220 _ tt h refl,
+                λ m h. by_key 17220 _ m h refl,
                 (
-                  λ h. by_key 21058 _ tt h (rw (le-ltb 2 ts.count (counted _ h).1)),
+                  λ m h. by_key 21058 _ m h (rw (le-ltb 2 ts.count (counted _ m h).1)),
                   (
-                    λ h. by_key 21058 _ tt h (rw (lt-ltb 2 ts.count (omega (arith, (counted _ h).0)))),
+                    λ m h. by_key 21058 _ m h (rw (lt-ltb 2 ts.count (omega (arith, (counted _ m h).0)))),
                     (
-                      λ h. by_key 19523 _ tt h (rw (le-ltb 2 ts.count (counted _ h).1)),
+                      λ m h. by_key 19523 _ m h (rw (le-ltb 2 ts.count (counted _ m h).1)),
                       (
-                        λ h. by_key 19523 _ tt h (rw (lt-ltb 2 ts.count (omega (arith, (counted _ h).0)))),
+                        λ m h. by_key 19523 _ m h (rw (lt-ltb 2 ts.count (omega (arith, (counted _ m h).0)))),
                         (
-                          λ h. by_key 21586 _ tt h refl,
+                          λ m h. by_key 21586 _ m h refl,
                           (
-                            λ h. by_key 69 _ tt h refl,
+                            λ m h. by_key 69 _ m h refl,
                             (
-                              λ h. by_key 72 _ tt h (rw (le-ltb 1 ts.count (counted _ h).1)),
+                              λ m h. by_key 72 _ m h (rw (le-ltb 1 ts.count (counted _ m h).1)),
                               (
-                                λ h. by_key 72 _ tt h (rw (lt-ltb 1 ts.count (omega (arith, (counted _ h).0)))),
+                                λ m h. by_key 72 _ m h (rw (lt-ltb 1 ts.count (omega (arith, (counted _ m h).0)))),
                                 (
-                                  λ h. by_key 17743 _ tt h (rw (targeted _ h)),
+                                  λ m h. by_key 17743 _ m h (rw (targeted _ m h)),
                                   (
-                                    λ h. by_key 17743 _ tt h (rw (disarmed _ h)),
+                                    λ m h. by_key 17743 _ m h (rw (disarmed _ m h)),
                                     (
-                                      λ h. by_key 16717 _ tt h refl,
+                                      λ m h. by_key 16717 _ m h refl,
                                       (
-                                        λ h. by_key 21069 _ tt h refl,
+                                        λ m h. by_key 21069 _ m h refl,
                                         (
-                                          λ h. by_key 19539 _ tt h refl,
-                                          (λ h. by_key 21072 _ tt h refl, tt),
+                                          λ m h. by_key 19539 _ m h refl,
+                                          (λ m h. by_key 21072 _ m h refl, tt),
                                         ),
                                       ),
                                     ),
@@ -263,5 +248,5 @@ module _ (ts : Tokens) where
     ),
   )
 
-  pub only_form : (f : ℕ) → f < 21 → Fits (slots_of f) → form_for first second ts.count ≡ f
+  pub only_form : (f : ℕ) → f < 21 → (m : Match) → Fits (slots_of f) m → form_for first second ts.count ≡ f
   only_form f h = each_from Only 0 21 each f (omega arith) (omega arith)

@@ -1,88 +1,165 @@
 -- What the functions that match tokens with forms need of their values.
 -- Assumes nothing.
-use mathlib.Core.Path.{◌≡◌, refl, sym, ap, ◌∙◌}
-use mathlib.Core.Bool.{Bool, true, false, ◌&&◌, ◌||◌, not, or-true}
+use mathlib.Core.Path.{◌≡◌, refl, sym, subst, ◌∙◌}
+use mathlib.Core.Bool.{Bool, true, false, cond, ◌&&◌}
 use mathlib.Core.List.{List, [], ◌∷◌}
 use Prim.Native.Nat.{ℕ, zero, suc, ◌+◌, ◌≤◌, ◌<◌}
 use native.Mathlib.Nat.{not-suc-le-zero, le_of_suc-le-suc}
 use native.Mathlib.Numerals.{add-one}
 use native.Mathlib.Omega.{arith}
-use borrow.Author.Tests.{eq-eqb, ne_eqb}
 use lib.Dec.{T, eqb, eqb→eq}
 use lib.ListN.{length, drop, get_or, drop_of_length-le}
 use lib.Seq.{drop-cons}
+use Rattle.std.specs.Prelude.{Option, Some, None, IfSome}
 use Rattle.numbers.specs.Tests.{all_of}
+use Rattle.program.specs.Names.{two_characters, user_name}
 use Rattle.program.specs.Code.{name_of}
-use Rattle.numbers.proofs.Truth.{both, of_both, cond_yes, cond_no}
+use Rattle.numbers.proofs.Truth.{both, of_both}
 use Rattle.text.specs.Forms.{variable_name}
-use Rattle.text.specs.Code.{token_at}
-use Rattle.forms.specs.Code.{literal_by, variable_by, operand_by, slot_by, word_by, fill_by, slot_table, slots_of, found_by, value_by, kept_by}
+use Rattle.text.specs.Code.{token_at, is_operator, is_comparison}
+use Rattle.forms.specs.Code.{taken, literal_by, variable_by, operand_by, with_name, with_written, with_operator, with_comparison, with_left, with_right, with_start, value_by, word_by, slot_by, is_end, fill_by, slot_table, slots_of}
 use Rattle.text.specs.declared.tokens.Token.{Token}
+use Rattle.forms.specs.declared.Slot.{Slot}
+use Rattle.forms.specs.declared.Slot.TheVariants as S
+use Rattle.forms.specs.declared.Value.{Value}
+use Rattle.forms.specs.declared.Value.TheVariants as Val
 use Rattle.forms.specs.declared.Taken.{Taken}
 use Rattle.forms.specs.declared.Match.{Match}
 
--- An operand: a literal, or else a variable.
-pub operand_variable : (t u : Token) {l v : Taken} → l ≡ literal_by t u → l.used ≡ 0 → v ≡ variable_by t.key → v ≡ operand_by t u
-unfolding operand_by
-operand_variable t u p e q = let f : (literal_by t u).used ≡ 0 = rw p at e in rw (eq-eqb _ _ f) q
-
-pub operand_literal : (t u : Token) {l : Taken} → l ≡ literal_by t u → (l.used ≡ 0 → ⊥) → l ≡ operand_by t u
-unfolding operand_by
-operand_literal t u p e = let f : (literal_by t u).used ≡ 0 → ⊥ = rw p at e in rw (ne_eqb _ _ f) p
-
--- So many tokens at most are taken; by an operand no more than two.
+-- So many tokens are taken, from one to two.
 abbrev pub Uses : ℕ → Taken → Type 0
-Uses n x = x.used ≤ n
+Uses n x = (1 ≤ x.used) × (x.used ≤ n)
 
-literal_used : (t u : Token) → (literal_by t u).used ≤ 2
+pub literal_used : (t u : Token) → IfSome (literal_by t u) (Uses 2)
 unfolding literal_by
-literal_used t u = of_both (Uses 2) t.digits (omega arith) (of_both (Uses 2) ((eqb t.key 45 && t.glued) && u.digits) (omega arith) (omega arith))
+literal_used t u = pick t.value (eqb t.key 45 && t.glued) u.value
+  where
+    pick : (a : Option ℕ) (x : Bool) (b : Option ℕ)
+        → IfSome (elim a [ Some v ↦ Some (taken 1 (Val.Literal false v)) | None ↦ cond x (elim b [ Some v ↦ Some (taken 2 (Val.Literal true v)) | None ↦ None ]) None ]) (Uses 2)
+    pick (Some v) x b = (omega arith, omega arith)
+    pick None true (Some v) = (omega arith, omega arith)
+    pick None true None = tt
+    pick None false b = tt
 
-operand_used : (t u : Token) → (operand_by t u).used ≤ 2
-unfolding operand_by variable_by
-operand_used t u = of_both (Uses 2) (eqb (literal_by t u).used 0) (of_both (Uses 2) (variable_name (name_of t.key)) (omega arith) (omega arith)) (literal_used t u)
+variable_used : (k : ℕ) → IfSome (variable_by k) (Uses 2)
+unfolding variable_by
+variable_used k = of_both (λ o. IfSome o (Uses 2)) (variable_name (name_of k)) (omega arith, omega arith) tt
 
-pub found_used : (slot : ℕ) (t u : Token) → (found_by slot t u).used ≤ 2
-unfolding found_by
-found_used slot t u = of_both (Uses 2) (eqb slot 6) (literal_used t u) (operand_used t u)
+pub operand_used : (t u : Token) → IfSome (operand_by t u) (Uses 2)
+unfolding operand_by
+operand_used t u = pick (literal_by t u) (literal_used t u)
+  where
+    pick : (o : Option Taken) → IfSome o (Uses 2) → IfSome (elim o [ Some x ↦ Some x | None ↦ variable_by t.key ]) (Uses 2)
+    pick (Some x) h = h
+    pick None h = variable_used t.key
+
+pub found_small : {o r : Option Taken} {x : Taken} → IfSome o (Uses 2) → r ≡ o → r ≡ Some x → x.used < 64
+found_small {o} {r} {x} h p q = let k : IfSome (Some x) (Uses 2) = subst (λ o. IfSome o (Uses 2)) (sym p ∙ q) h in omega (arith, k.1)
+
+not_end : (s : Slot) → (s ≡ S.End → ⊥) → is_end s ≡ false
+unfolding is_end
+not_end (S.Is k) h = refl
+not_end S.New h = refl
+not_end S.Target h = refl
+not_end S.Written h = refl
+not_end S.Left h = refl
+not_end S.Right h = refl
+not_end S.Start h = refl
+not_end S.Operator h = refl
+not_end S.Comparison h = refl
+not_end S.End h = absurd (h refl)
+
+-- An operand: a literal, or else a variable.
+pub operand_literal : (t u : Token) {o : Option Taken} {x : Taken} → o ≡ literal_by t u → o ≡ Some x → Some x ≡ operand_by t u
+unfolding operand_by
+operand_literal t u {o} {x} p q = rw (operand_by, sym p ∙ q)
+
+pub operand_variable : (t u : Token) {o v : Option Taken} → o ≡ literal_by t u → o ≡ None → v ≡ variable_by t.key → v ≡ operand_by t u
+unfolding operand_by
+operand_variable t u {o} {v} p q r = rw (operand_by, sym p ∙ q) r
+
+-- How many tokens a slot takes at least and at most.
+unfoldable pub least : Slot → ℕ
+least s = cond (is_end s) 0 1
+
+unfoldable pub width : Slot → ℕ
+width (S.Is k) = 1
+width S.New = 1
+width S.Target = 1
+width S.Written = 1
+width S.Left = 2
+width S.Right = 2
+width S.Start = 2
+width S.Operator = 1
+width S.Comparison = 1
+width S.End = 0
+
+width_most : (s : Slot) → width s ≤ 2
+unfolding width
+width_most (S.Is k) = omega arith
+width_most S.New = omega arith
+width_most S.Target = omega arith
+width_most S.Written = omega arith
+width_most S.Left = omega arith
+width_most S.Right = omega arith
+width_most S.Start = omega arith
+width_most S.Operator = omega arith
+width_most S.Comparison = omega arith
+width_most S.End = omega arith
+
+abbrev pub Moves : Match → ℕ → ℕ → Match → Type 0
+Moves m low high n = (m.place + low ≤ n.place) × (n.place ≤ m.place + high)
+
+word_moves : (b : Bool) (m : Match) → IfSome (word_by b m) (Moves m 1 1)
+unfolding word_by
+word_moves true m = (omega arith, omega arith)
+word_moves false m = tt
+
+value_moves : (put : Match → Value → Match) (m : Match) (o : Option Taken) → ((v : Value) → (put m v).place ≡ m.place) → IfSome o (Uses 2)
+    → IfSome (value_by put m o) (Moves m 1 2)
+value_moves put m None e h = tt
+value_moves put m (Some x) e h = let p = e x.value in (omega (arith, h.0), omega (arith, h.1))
+
+pub slot_moves : (m : Match) (s : Slot) (t u : Token) → IfSome (slot_by m s t u) (Moves m (least s) (width s))
+unfolding slot_by is_end least width
+slot_moves m (S.Is k) t u = word_moves (eqb k t.key) m
+slot_moves m S.New t u = word_moves (two_characters (name_of t.key)) (with_name m t.key)
+slot_moves m S.Target t u = word_moves (user_name (name_of t.key)) (with_name m t.key)
+slot_moves m S.Written t u = word_moves (variable_name (name_of t.key)) (with_written m t.key)
+slot_moves m S.Left t u = value_moves with_left m (operand_by t u) (λ v. refl) (operand_used t u)
+slot_moves m S.Right t u = value_moves with_right m (operand_by t u) (λ v. refl) (operand_used t u)
+slot_moves m S.Start t u = value_moves with_start m (literal_by t u) (λ v. refl) (literal_used t u)
+slot_moves m S.Operator t u = word_moves (is_operator (name_of t.key)) (with_operator m t.key)
+slot_moves m S.Comparison t u = word_moves (is_comparison (name_of t.key)) (with_comparison m t.key)
+slot_moves m S.End t u = (omega arith, omega arith)
+
+pub slot_place : (m : Match) (s : Slot) (t u : Token) {o : Option Match} {n : Match} → o ≡ slot_by m s t u → o ≡ Some n → n.place ≤ m.place + 2
+slot_place m s t u {o} {n} p q =
+    let h : IfSome (Some n) (Moves m (least s) (width s)) = subst (λ o. IfSome o (Moves m (least s) (width s))) (sym p ∙ q) (slot_moves m s t u) in
+    omega (arith, h.1, width_most s)
 
 -- The slots one after the other.
 module _ (ts : List Token) (m : Match) where
-  pub fill_stop : (ss : List ℕ) → m.ok ≡ false → fill_by ss ts m ≡ m
+  pub fill_over : (l : List Slot) (k : ℕ) (d : Slot) → k < length l → get_or l k d ≡ S.End → Some m ≡ fill_by (drop k l) ts m
+  unfolding fill_by is_end
+  fill_over l k d h p = rw (drop-cons l k d h, p)
+
+  -- What is left to fill behind a slot.
+  abbrev pub then : List Slot → Option Match → Option Match
+  then ss o = elim o [ Some n ↦ fill_by ss ts n | None ↦ None ]
+
+  pub fill_step : (s : Slot) (ss : List Slot) → is_end s ≡ false → fill_by (s ∷ ss) ts m ≡ then ss (slot_by m s (token_at ts m.place) (token_at ts (m.place + 1)))
   unfolding fill_by
-  fill_stop [] e = refl
-  fill_stop (s ∷ ss) e = cond_yes (eqb s 0 || not m.ok) _ _ (rw e (or-true (eqb s 0)))
+  fill_step s ss e = rw e
 
-  pub fill_over : (l : List ℕ) (k : ℕ) {s : ℕ} → k < length l → s ≡ get_or l k 0 → (eqb s 0 || not m.ok) ≡ true → m ≡ fill_by (drop k l) ts m
-  unfolding fill_by
-  fill_over l k h p e =
-      let f : (eqb (get_or l k 0) 0 || not m.ok) ≡ true = rw p at e in
-      sym (ap (λ (x : List ℕ). fill_by x ts m) (drop-cons l k 0 h) ∙ cond_yes (eqb (get_or l k 0) 0 || not m.ok) _ _ f)
-
-  pub fill_more : (l : List ℕ) (k : ℕ) {s : ℕ} {t u : Token} {n : Match} → k < length l → s ≡ get_or l k 0 → (eqb s 0 || not m.ok) ≡ false
-      → t ≡ token_at ts m.place → u ≡ token_at ts (m.place + 1) → n ≡ slot_by m s t u
-      → fill_by (drop (k + 1) l) ts n ≡ fill_by (drop k l) ts m
-  unfolding fill_by
-  fill_more l k h p e q r f =
-      let g : (eqb (get_or l k 0) 0 || not m.ok) ≡ false = rw p at e in
-      rw (add-one, f, p, q, r)
-      (sym (ap (λ (x : List ℕ). fill_by x ts m) (drop-cons l k 0 h) ∙ cond_no (eqb (get_or l k 0) 0 || not m.ok) _ _ g))
-
-pub kept_place : (m : Match) (s k : ℕ) → (kept_by m s k).place ≡ m.place
-unfolding kept_by
-kept_place m s k = of_both Stays (eqb s 1 || eqb s 2) refl (of_both Stays (eqb s 3) refl (of_both Stays (eqb s 7) refl (of_both Stays (eqb s 8) refl refl)))
-  where
-    Stays : Match → Type 0
-    Stays x = x.place ≡ m.place
-
-pub slot_place : (m : Match) (s : ℕ) (t u : Token) {n : Match} → n ≡ slot_by m s t u → n.place ≤ m.place + 2
-unfolding slot_by value_by word_by
-slot_place m s t u f =
-    rw f
-    (of_both (λ (x : Match). x.place ≤ m.place + 2) ((eqb s 4 || eqb s 5) || eqb s 6) (omega (arith, found_used s t u)) (omega (arith, kept_place m s t.key)))
+  pub fill_more : (l : List Slot) (k : ℕ) (d : Slot) {o r : Option Match} → k < length l → (get_or l k d ≡ S.End → ⊥)
+      → o ≡ slot_by m (get_or l k d) (token_at ts m.place) (token_at ts (m.place + 1)) → o ≡ r
+      → then (drop (k + 1) l) r ≡ fill_by (drop k l) ts m
+  fill_more l k d h n p q =
+      rw (← q, p, add-one, drop-cons l k d h) (sym (fill_step (get_or l k d) (drop (suc k) l) (not_end (get_or l k d) n)))
 
 -- Six slots to a form, and none is left behind them.
-each_at : (P : List ℕ → Bool) (ls : List (List ℕ)) → T (all_of P ls) → (i : ℕ) → i < length ls → T (P (get_or ls i []))
+each_at : (P : List Slot → Bool) (ls : List (List Slot)) → T (all_of P ls) → (i : ℕ) → i < length ls → T (P (get_or ls i []))
 unfolding all_of
 each_at P [] a i h = absurd (not-suc-le-zero h)
 each_at P (l ∷ ls) a zero h = (both (P l) (all_of P ls) a).0
@@ -92,6 +169,6 @@ pub slots_length : (form : ℕ) → form < 21 → length (slots_of form) ≡ 6
 unfolding slots_of slot_table all_of
 slots_length form h = eqb→eq (length (slots_of form)) 6 (each_at (λ l. eqb (length l) 6) slot_table tt form h)
 
-pub fill_end : (ts : List Token) (m : Match) (l : List ℕ) (k : ℕ) → length l ≤ k → fill_by (drop k l) ts m ≡ m
+pub fill_end : (ts : List Token) (m : Match) (l : List Slot) (k : ℕ) → length l ≤ k → fill_by (drop k l) ts m ≡ Some m
 unfolding fill_by
 fill_end ts m l k h = rw (drop_of_length-le l h)

@@ -1,6 +1,6 @@
 -- What the code holds of the forms and of the parts that their slots take, in its own shape. No demand reaches this; proofs/ ties it to the definitions of the paper.
 -- Assumes nothing.
-use Rattle.std.specs.Prelude.{Bool, true, false, cond, ◌&&◌, ◌||◌, not, List, [], ◌∷◌, ℕ, ◌+◌, eqb, ltb, get_or, ℤ, pos, neg_ℤ}
+use Rattle.std.specs.Prelude.{Bool, true, false, cond, ◌&&◌, ◌||◌, List, [], ◌∷◌, ℕ, ◌+◌, eqb, ltb, get_or, ℤ, pos, neg_ℤ, Option, Some, None}
 use Rattle.program.specs.Names.{Name, two_characters, user_name}
 use Rattle.program.specs.Code.{name_of}
 use Rattle.program.specs.Statements.{Literal, Variable, Operator, BitXor, Comparison, AtLeast}
@@ -10,6 +10,8 @@ use Rattle.text.specs.Code.{token_at, spelt, is_operator, is_comparison, or_else
 use Rattle.text.specs.declared.tokens.Token.{Token}
 use Rattle.forms.specs.declared.Value.{Value}
 use Rattle.forms.specs.declared.Value.TheVariants as Val
+use Rattle.forms.specs.declared.Slot.{Slot}
+use Rattle.forms.specs.declared.Slot.TheVariants as S
 use Rattle.forms.specs.declared.Taken.{Taken}
 use Rattle.forms.specs.declared.Match.{Match}
 
@@ -26,30 +28,31 @@ unfoldable pub start_of : Value → ℤ
 start_of (Val.Literal negative size) = meaning negative size
 start_of (Val.Variable k) = pos 0
 
--- How many tokens an operand takes, and what it is; none where no operand stands there.
+-- How many tokens an operand takes, and what it is.
 abbrev pub taken : ℕ → Value → Taken
 taken used value = record { used = used; value = value }
 
 abbrev pub zero_value : Value
 zero_value = Val.Literal false 0
 
--- A literal at the front of two tokens; an operand.
-unfoldable pub literal_by : Token → Token → Taken
+-- A literal at the front of two tokens; an operand; none where there is none.
+unfoldable pub literal_by : Token → Token → Option Taken
 literal_by t u =
-    cond t.digits (taken 1 (Val.Literal false t.value))
-    (cond ((eqb t.key 45 && t.glued) && u.digits) (taken 2 (Val.Literal true u.value)) (taken 0 zero_value))
+    elim t.value [
+      | Some v ↦ Some (taken 1 (Val.Literal false v))
+      | None ↦ cond (eqb t.key 45 && t.glued) (elim u.value [ Some v ↦ Some (taken 2 (Val.Literal true v)) | None ↦ None ]) None
+    ]
 
-unfoldable pub variable_by : ℕ → Taken
-variable_by k = cond (variable_name (name_of k)) (taken 1 (Val.Variable k)) (taken 0 zero_value)
+unfoldable pub variable_by : ℕ → Option Taken
+variable_by k = cond (variable_name (name_of k)) (Some (taken 1 (Val.Variable k))) None
 
-unfoldable pub operand_by : Token → Token → Taken
-operand_by t u = cond (eqb (literal_by t u).used 0) (variable_by t.key) (literal_by t u)
+unfoldable pub operand_by : Token → Token → Option Taken
+operand_by t u = elim (literal_by t u) [ Some x ↦ Some x | None ↦ variable_by t.key ]
 
--- What the slots of a form took so far: whether each took something, where the next token stands, and the parts.
-abbrev pub match : Bool → ℕ → ℕ → ℕ → Value → ℕ → ℕ → Value → Value → Match
-match ok place name written left operator comparison right start =
+-- What the slots of a form took so far: where the next token stands, and the parts.
+abbrev pub match : ℕ → ℕ → ℕ → Value → ℕ → ℕ → Value → Value → Match
+match place name written left operator comparison right start =
     record {
-      ok = ok;
       place = place;
       name = name;
       written = written;
@@ -61,32 +64,32 @@ match ok place name written left operator comparison right start =
     }
 
 abbrev pub no_match : Match
-no_match = match true 0 0 0 zero_value 0 0 zero_value zero_value
+no_match = match 0 0 0 zero_value 0 0 zero_value zero_value
 
 -- So many tokens on.
-abbrev pub onward : Match → Bool → ℕ → Match
-onward m ok used = match (m.ok && ok) (m.place + used) m.name m.written m.left m.operator m.comparison m.right m.start
+abbrev pub onward : Match → ℕ → Match
+onward m used = match (m.place + used) m.name m.written m.left m.operator m.comparison m.right m.start
 
 abbrev pub with_name : Match → ℕ → Match
-with_name m k = match m.ok m.place k m.written m.left m.operator m.comparison m.right m.start
+with_name m k = match m.place k m.written m.left m.operator m.comparison m.right m.start
 
 abbrev pub with_written : Match → ℕ → Match
-with_written m k = match m.ok m.place m.name k m.left m.operator m.comparison m.right m.start
+with_written m k = match m.place m.name k m.left m.operator m.comparison m.right m.start
 
 abbrev pub with_operator : Match → ℕ → Match
-with_operator m k = match m.ok m.place m.name m.written m.left k m.comparison m.right m.start
+with_operator m k = match m.place m.name m.written m.left k m.comparison m.right m.start
 
 abbrev pub with_comparison : Match → ℕ → Match
-with_comparison m k = match m.ok m.place m.name m.written m.left m.operator k m.right m.start
+with_comparison m k = match m.place m.name m.written m.left m.operator k m.right m.start
 
 abbrev pub with_left : Match → Value → Match
-with_left m v = match m.ok m.place m.name m.written v m.operator m.comparison m.right m.start
+with_left m v = match m.place m.name m.written v m.operator m.comparison m.right m.start
 
 abbrev pub with_right : Match → Value → Match
-with_right m v = match m.ok m.place m.name m.written m.left m.operator m.comparison v m.start
+with_right m v = match m.place m.name m.written m.left m.operator m.comparison v m.start
 
 abbrev pub with_start : Match → Value → Match
-with_start m v = match m.ok m.place m.name m.written m.left m.operator m.comparison m.right v
+with_start m v = match m.place m.name m.written m.left m.operator m.comparison m.right v
 
 -- What a sign stands for; what is no sign counts as the last.
 unfoldable pub operator_by : Name → Operator
@@ -95,71 +98,74 @@ operator_by w = or_else BitXor (operator_meant w)
 unfoldable pub comparison_by : Name → Comparison
 comparison_by w = or_else AtLeast (comparison_meant w)
 
--- The word of this key fits a slot.
-unfoldable pub fits_by : ℕ → ℕ → Bool
-fits_by slot k =
-    cond (eqb slot 1) (two_characters (name_of k))
-    (cond (eqb slot 2) (user_name (name_of k))
-    (cond (eqb slot 3) (variable_name (name_of k)) (cond (eqb slot 7) (is_operator (name_of k)) (cond (eqb slot 8) (is_comparison (name_of k)) (eqb slot k)))))
+-- A word on, where it fits its slot.
+unfoldable pub word_by : Bool → Match → Option Match
+word_by fits m = cond fits (Some (onward m 1)) None
 
--- The word of this key among the parts.
-unfoldable pub kept_by : Match → ℕ → ℕ → Match
-kept_by m slot k =
-    cond (eqb slot 1 || eqb slot 2) (with_name m k)
-    (cond (eqb slot 3) (with_written m k) (cond (eqb slot 7) (with_operator m k) (cond (eqb slot 8) (with_comparison m k) m)))
+-- A value on, where one is found, put among the parts.
+abbrev pub value_by : (Match → Value → Match) → Match → Option Taken → Option Match
+value_by put m o = elim o [ Some x ↦ Some (onward (put m x.value) x.used) | None ↦ None ]
 
--- A slot that takes a word, by the word's key.
-unfoldable pub word_by : Match → ℕ → ℕ → Match
-word_by m slot k = onward (kept_by m slot k) (fits_by slot k) 1
+-- What a slot takes of the next two tokens, put among the parts; none where it takes nothing.
+unfoldable pub slot_by : Match → Slot → Token → Token → Option Match
+slot_by m (S.Is k) t u = word_by (eqb k t.key) m
+slot_by m S.New t u = word_by (two_characters (name_of t.key)) (with_name m t.key)
+slot_by m S.Target t u = word_by (user_name (name_of t.key)) (with_name m t.key)
+slot_by m S.Written t u = word_by (variable_name (name_of t.key)) (with_written m t.key)
+slot_by m S.Left t u = value_by with_left m (operand_by t u)
+slot_by m S.Right t u = value_by with_right m (operand_by t u)
+slot_by m S.Start t u = value_by with_start m (literal_by t u)
+slot_by m S.Operator t u = word_by (is_operator (name_of t.key)) (with_operator m t.key)
+slot_by m S.Comparison t u = word_by (is_comparison (name_of t.key)) (with_comparison m t.key)
+slot_by m S.End t u = Some m
 
--- A slot that takes a value: what it finds; and the value among the parts.
-unfoldable pub found_by : ℕ → Token → Token → Taken
-found_by slot t u = cond (eqb slot 6) (literal_by t u) (operand_by t u)
+-- No more slots.
+unfoldable pub is_end : Slot → Bool
+is_end (S.Is k) = false
+is_end S.New = false
+is_end S.Target = false
+is_end S.Written = false
+is_end S.Left = false
+is_end S.Right = false
+is_end S.Start = false
+is_end S.Operator = false
+is_end S.Comparison = false
+is_end S.End = true
 
-unfoldable pub value_by : Match → ℕ → Taken → Match
-value_by m slot x =
-    match (m.ok && not (eqb x.used 0)) (m.place + x.used) m.name m.written
-    (cond (eqb slot 4) x.value m.left) m.operator m.comparison (cond (eqb slot 5) x.value m.right) (cond (eqb slot 6) x.value m.start)
-
--- A slot, with the next two tokens.
-unfoldable pub slot_by : Match → ℕ → Token → Token → Match
-slot_by m slot t u = cond ((eqb slot 4 || eqb slot 5) || eqb slot 6) (value_by m slot (found_by slot t u)) (word_by m slot t.key)
-
--- The slots of a form one after the other, until there are no more or one takes nothing.
-unfoldable pub fill_by : List ℕ → List Token → Match → Match
-fill_by [] ts m = m
+-- The slots of a form one after the other, until there are no more; none where one takes nothing.
+unfoldable pub fill_by : List Slot → List Token → Match → Option Match
+fill_by [] ts m = Some m
 fill_by (s ∷ ss) ts m =
-    let more = fill_by ss ts (slot_by m s (token_at ts m.place) (token_at ts (m.place + 1))) in
-    cond (eqb s 0 || not m.ok) m more
+    let more : Option Match = elim (slot_by m s (token_at ts m.place) (token_at ts (m.place + 1))) [ Some n ↦ fill_by ss ts n | None ↦ None ] in
+    cond (is_end s) (Some m) more
 
--- The slots of the 21 forms, six to a form: 1 a name to declare, 2 a label, 3 a variable to write, 4 and 5 the operands, 6 a literal,
--- 7 an operator, 8 a comparison, 0 no more; any other is the key of fixed characters.
-unfoldable pub slot_table : List (List ℕ)
+-- The slots of the 21 forms, six to a form.
+unfoldable pub slot_table : List (List Slot)
 slot_table =
-    (16972 ∷ 1 ∷ 0 ∷ 0 ∷ 0 ∷ 0 ∷ [])
-    ∷ (16726 ∷ 1 ∷ 0 ∷ 0 ∷ 0 ∷ 0 ∷ [])
-    ∷ (16726 ∷ 1 ∷ 61 ∷ 6 ∷ 0 ∷ 0 ∷ [])
-    ∷ (3 ∷ 61 ∷ 4 ∷ 0 ∷ 0 ∷ 0 ∷ [])
-    ∷ (3 ∷ 61 ∷ 4 ∷ 7 ∷ 5 ∷ 0 ∷ [])
-    ∷ (17225 ∷ 3 ∷ 0 ∷ 0 ∷ 0 ∷ 0 ∷ [])
-    ∷ (17220 ∷ 3 ∷ 0 ∷ 0 ∷ 0 ∷ 0 ∷ [])
-    ∷ (21058 ∷ 2 ∷ 0 ∷ 0 ∷ 0 ∷ 0 ∷ [])
-    ∷ (21058 ∷ 2 ∷ 44 ∷ 4 ∷ 8 ∷ 5 ∷ [])
-    ∷ (19523 ∷ 2 ∷ 0 ∷ 0 ∷ 0 ∷ 0 ∷ [])
-    ∷ (19523 ∷ 2 ∷ 44 ∷ 4 ∷ 8 ∷ 5 ∷ [])
-    ∷ (21586 ∷ 0 ∷ 0 ∷ 0 ∷ 0 ∷ 0 ∷ [])
-    ∷ (69 ∷ 0 ∷ 0 ∷ 0 ∷ 0 ∷ 0 ∷ [])
-    ∷ (72 ∷ 0 ∷ 0 ∷ 0 ∷ 0 ∷ 0 ∷ [])
-    ∷ (72 ∷ 4 ∷ 0 ∷ 0 ∷ 0 ∷ 0 ∷ [])
-    ∷ (17743 ∷ 2 ∷ 0 ∷ 0 ∷ 0 ∷ 0 ∷ [])
-    ∷ (17743 ∷ 48 ∷ 0 ∷ 0 ∷ 0 ∷ 0 ∷ [])
-    ∷ (16717 ∷ 4 ∷ 0 ∷ 0 ∷ 0 ∷ 0 ∷ [])
-    ∷ (21069 ∷ 4 ∷ 0 ∷ 0 ∷ 0 ∷ 0 ∷ [])
-    ∷ (19539 ∷ 4 ∷ 0 ∷ 0 ∷ 0 ∷ 0 ∷ [])
-    ∷ (21072 ∷ 4 ∷ 0 ∷ 0 ∷ 0 ∷ 0 ∷ [])
+    (S.Is 16972 ∷ S.New ∷ S.End ∷ S.End ∷ S.End ∷ S.End ∷ [])
+    ∷ (S.Is 16726 ∷ S.New ∷ S.End ∷ S.End ∷ S.End ∷ S.End ∷ [])
+    ∷ (S.Is 16726 ∷ S.New ∷ S.Is 61 ∷ S.Start ∷ S.End ∷ S.End ∷ [])
+    ∷ (S.Written ∷ S.Is 61 ∷ S.Left ∷ S.End ∷ S.End ∷ S.End ∷ [])
+    ∷ (S.Written ∷ S.Is 61 ∷ S.Left ∷ S.Operator ∷ S.Right ∷ S.End ∷ [])
+    ∷ (S.Is 17225 ∷ S.Written ∷ S.End ∷ S.End ∷ S.End ∷ S.End ∷ [])
+    ∷ (S.Is 17220 ∷ S.Written ∷ S.End ∷ S.End ∷ S.End ∷ S.End ∷ [])
+    ∷ (S.Is 21058 ∷ S.Target ∷ S.End ∷ S.End ∷ S.End ∷ S.End ∷ [])
+    ∷ (S.Is 21058 ∷ S.Target ∷ S.Is 44 ∷ S.Left ∷ S.Comparison ∷ S.Right ∷ [])
+    ∷ (S.Is 19523 ∷ S.Target ∷ S.End ∷ S.End ∷ S.End ∷ S.End ∷ [])
+    ∷ (S.Is 19523 ∷ S.Target ∷ S.Is 44 ∷ S.Left ∷ S.Comparison ∷ S.Right ∷ [])
+    ∷ (S.Is 21586 ∷ S.End ∷ S.End ∷ S.End ∷ S.End ∷ S.End ∷ [])
+    ∷ (S.Is 69 ∷ S.End ∷ S.End ∷ S.End ∷ S.End ∷ S.End ∷ [])
+    ∷ (S.Is 72 ∷ S.End ∷ S.End ∷ S.End ∷ S.End ∷ S.End ∷ [])
+    ∷ (S.Is 72 ∷ S.Left ∷ S.End ∷ S.End ∷ S.End ∷ S.End ∷ [])
+    ∷ (S.Is 17743 ∷ S.Target ∷ S.End ∷ S.End ∷ S.End ∷ S.End ∷ [])
+    ∷ (S.Is 17743 ∷ S.Is 48 ∷ S.End ∷ S.End ∷ S.End ∷ S.End ∷ [])
+    ∷ (S.Is 16717 ∷ S.Left ∷ S.End ∷ S.End ∷ S.End ∷ S.End ∷ [])
+    ∷ (S.Is 21069 ∷ S.Left ∷ S.End ∷ S.End ∷ S.End ∷ S.End ∷ [])
+    ∷ (S.Is 19539 ∷ S.Left ∷ S.End ∷ S.End ∷ S.End ∷ S.End ∷ [])
+    ∷ (S.Is 21072 ∷ S.Left ∷ S.End ∷ S.End ∷ S.End ∷ S.End ∷ [])
     ∷ []
 
-unfoldable pub slots_of : ℕ → List ℕ
+unfoldable pub slots_of : ℕ → List Slot
 slots_of form = get_or slot_table form []
 
 -- The first form of a line by the key of its first token, that of an assignment where this is no mnemonic; and the one form that the tokens
@@ -172,8 +178,8 @@ first_form first =
 
 abbrev pub longer_by : ℕ → ℕ → ℕ → Bool
 longer_by form second count =
-    (((((eqb form 1 || eqb form 7) || eqb form 9) && ltb 2 count) || (eqb form 3 && ltb 4 count)) || (eqb form 13 && ltb 1 count))
-    || (eqb form 15 && eqb second 48)
+    cond ((eqb form 1 || eqb form 7) || eqb form 9) (ltb 2 count)
+    (cond (eqb form 3) (ltb 4 count) (cond (eqb form 13) (ltb 1 count) (cond (eqb form 15) (eqb second 48) false)))
 
 unfoldable pub form_for : ℕ → ℕ → ℕ → ℕ
 form_for first second count = let form = first_form first in cond (longer_by form second count) (form + 1) form

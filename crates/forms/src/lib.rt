@@ -1,38 +1,37 @@
 // The forms of statements, and what the tokens of a line take in their slots.
 #![tactic(auto)]
 
-ghost use Rattle.std.specs.Prelude.{◌≡◌, cond, ◌<◌};
+ghost use Rattle.std.specs.Prelude.{◌≡◌, ◌<◌};
 ghost use Rattle.program.specs.Cells.{operator_number, comparison_number};
 ghost use Rattle.program.specs.Code.{name_of};
 ghost use Rattle.text.specs.Forms.{variable_name};
 ghost use Rattle.text.specs.Code.{is_operator, is_comparison};
-ghost use Rattle.forms.specs.Code.{no_match, literal_by, variable_by, operand_by, found_by, operator_by, comparison_by, fits_by, word_by, value_by, slot_by, fill_by, slots_of, first_form, longer_by, form_for};
+ghost use Rattle.forms.specs.Code.{no_match, literal_by, variable_by, operand_by, operator_by, comparison_by, onward, word_by, slot_by, fill_by, slots_of, first_form, longer_by, form_for};
 
+use crate::Slot::{Comparison, End, Is, Left, New, Operator, Right, Start, Target, Written};
 use program::{Cell, Variable, names};
 use text::tokens::{Token, Tokens};
+
+// What a slot of a form takes: the very characters of a key, a name to declare, a label, a variable to write, the operand on the left or on the
+// right, a literal, an operator or a comparison; and no more slots.
+#[derive(Clone, Copy)]
+pub enum Slot {
+    Is(u16),
+    New,
+    Target,
+    Written,
+    Left,
+    Right,
+    Start,
+    Operator,
+    Comparison,
+    End,
+}
 
 // How many values a character of a key has.
 const BYTE: u16 = 256;
 
-// What a slot of a form takes; any other number is the key of the very characters that it takes.
-const NOTHING: u16 = 0;
-
-const NEW: u16 = 1;
-
-const TARGET: u16 = 2;
-
-const WRITTEN: u16 = 3;
-
-const LEFT: u16 = 4;
-
-const RIGHT: u16 = 5;
-
-const START: u16 = 6;
-
-const OPERATOR: u16 = 7;
-
-const COMPARISON: u16 = 8;
-
+// Stays: these and the next 17: tried `u16::from_le_bytes(*b"LB")`, which the check refuses: a call in a constant's value is not supported yet.
 const LB: u16 = (b'L' as u16) + BYTE * (b'B' as u16);
 
 const VA: u16 = (b'V' as u16) + BYTE * (b'A' as u16);
@@ -69,10 +68,8 @@ const ZERO: u16 = b'0' as u16;
 
 const MINUS: u16 = b'-' as u16;
 
-// How many slots a form has at most.
-const SLOTS: usize = 6;
-
 // Where the forms of each mnemonic begin in the table, and those of an assignment.
+// Stays: a form is its place in this table and in that of crate reading, and the longer form of a mnemonic is the place behind (`form + 1` in `form_for`): an enum of 21 names would be cast to that place and back.
 const AT_LB: usize = 0;
 
 const AT_VA: usize = 1;
@@ -104,50 +101,54 @@ const AT_SL: usize = 19;
 const AT_PR: usize = 20;
 
 // The slots of the forms.
-const FORMS: [[u16; 6]; 21] = [
-    [LB, NEW, 0, 0, 0, 0],
-    [VA, NEW, 0, 0, 0, 0],
-    [VA, NEW, EQUALS, START, 0, 0],
-    [WRITTEN, EQUALS, LEFT, 0, 0, 0],
-    [WRITTEN, EQUALS, LEFT, OPERATOR, RIGHT, 0],
-    [IC, WRITTEN, 0, 0, 0, 0],
-    [DC, WRITTEN, 0, 0, 0, 0],
-    [BR, TARGET, 0, 0, 0, 0],
-    [BR, TARGET, COMMA, LEFT, COMPARISON, RIGHT],
-    [CL, TARGET, 0, 0, 0, 0],
-    [CL, TARGET, COMMA, LEFT, COMPARISON, RIGHT],
-    [RT, 0, 0, 0, 0, 0],
-    [E, 0, 0, 0, 0, 0],
-    [H, 0, 0, 0, 0, 0],
-    [H, LEFT, 0, 0, 0, 0],
-    [OE, TARGET, 0, 0, 0, 0],
-    [OE, ZERO, 0, 0, 0, 0],
-    [MA, LEFT, 0, 0, 0, 0],
-    [MR, LEFT, 0, 0, 0, 0],
-    [SL, LEFT, 0, 0, 0, 0],
-    [PR, LEFT, 0, 0, 0, 0],
+const FORMS: [[Slot; 6]; 21] = [
+    [Is(LB), New, End, End, End, End],
+    [Is(VA), New, End, End, End, End],
+    [Is(VA), New, Is(EQUALS), Start, End, End],
+    [Written, Is(EQUALS), Left, End, End, End],
+    [Written, Is(EQUALS), Left, Operator, Right, End],
+    [Is(IC), Written, End, End, End, End],
+    [Is(DC), Written, End, End, End, End],
+    [Is(BR), Target, End, End, End, End],
+    [Is(BR), Target, Is(COMMA), Left, Comparison, Right],
+    [Is(CL), Target, End, End, End, End],
+    [Is(CL), Target, Is(COMMA), Left, Comparison, Right],
+    [Is(RT), End, End, End, End, End],
+    [Is(E), End, End, End, End, End],
+    [Is(H), End, End, End, End, End],
+    [Is(H), Left, End, End, End, End],
+    [Is(OE), Target, End, End, End, End],
+    [Is(OE), Is(ZERO), End, End, End, End],
+    [Is(MA), Left, End, End, End, End],
+    [Is(MR), Left, End, End, End, End],
+    [Is(SL), Left, End, End, End, End],
+    [Is(PR), Left, End, End, End, End],
 ];
 
 // The operators and the comparisons in the order of their numbers, two bytes each.
-const OPERATORS: [u8; 14] = *b"+\0-\0*\0/\0&\0|\0^\0";
+const OPERATORS: [[u8; 2]; 7] = [
+    *b"+\0", *b"-\0", *b"*\0", *b"/\0", *b"&\0", *b"|\0", *b"^\0",
+];
 
-const COMPARISONS: [u8; 12] = *b"=\0<><\0<=>\0>=";
+const COMPARISONS: [[u8; 2]; 6] = [*b"=\0", *b"<>", *b"<\0", *b"<=", *b">\0", *b">="];
 
 // An operand: a literal by its sign and its size, or a variable by its key.
+// Stays: `fill` asks nothing of its tokens, so the size may be any u64, and with its sign be no i64.
 #[derive(Clone, Copy)]
 pub enum Value {
     Literal(bool, u64),
     Variable(u16),
 }
 
-// How many tokens an operand takes, and what it is; none where no operand stands there.
+// How many tokens an operand takes, and what it is.
 #[derive(Clone, Copy)]
 pub struct Taken {
     pub used: usize,
     pub value: Value,
 }
 
-// What the slots of a form took so far: where the next token stands, the parts, a name and a sign by its key; and whether each took something.
+// What the slots of a form took so far: where the next token stands, the parts, a name and a sign by its key.
+// Stays: 0 for a part that the form has not is what `no_match` says; which parts a form has is in the table of crate reading, so seven Options would be taken apart without a case for none.
 #[derive(Clone, Copy)]
 pub struct Match {
     pub place: usize,
@@ -158,7 +159,6 @@ pub struct Match {
     pub written: u16,
     pub operator: u16,
     pub comparison: u16,
-    pub ok: bool,
 }
 
 fn is_variable(key: u16) -> bool
@@ -171,84 +171,79 @@ fn is_variable(key: u16) -> bool
 }
 
 // The sign of an operator; of a comparison.
+// Stays: docs/PAPER.md names both by their contracts, as `operator_number` below; what they share is `place_in`.
 fn is_operator(key: u16) -> bool
     ensures { result ≡ is_operator (name_of key) }
 {
-    names::place_in(&OPERATORS, key) != 0
+    names::place_in(&OPERATORS, key).is_some()
 }
 
 fn is_comparison(key: u16) -> bool
     ensures { result ≡ is_comparison (name_of key) }
 {
-    names::place_in(&COMPARISONS, key) != 0
+    names::place_in(&COMPARISONS, key).is_some()
 }
 
 // The number that a sign has in a cell; what is no sign gets the last one.
+// Stays: docs/PAPER.md names both by their contracts, and the search that they share is `place_in`; one function more would only hand it the table.
 pub fn operator_number(key: u16) -> u8
     ensures { result ≡ operator_number (operator_by (name_of key)) }
 {
-    let place = names::place_in(&OPERATORS, key);
-    if place == 0 {
-        return Cell::XOR;
+    match names::place_in(&OPERATORS, key) {
+        Some(place) => (place as u8) + 1,
+        None => Cell::XOR,
     }
-    place as u8
 }
 
 pub fn comparison_number(key: u16) -> u8
     ensures { result ≡ comparison_number (comparison_by (name_of key)) }
 {
-    let place = names::place_in(&COMPARISONS, key);
-    if place == 0 {
-        return Cell::AT_LEAST;
+    match names::place_in(&COMPARISONS, key) {
+        Some(place) => (place as u8) + 1,
+        None => Cell::AT_LEAST,
     }
-    place as u8
 }
 
 // A literal at the front of two tokens: digits, or a minus with digits directly behind it.
-fn literal(t: Token, u: Token) -> Taken
+fn literal(t: Token, u: Token) -> Option<Taken>
     ensures { result ≡ literal_by t u }
 {
-    if t.digits {
-        return Taken {
+    if let Some(size) = t.value {
+        return Some(Taken {
             used: 1,
-            value: Value::Literal(false, t.value),
-        };
+            value: Value::Literal(false, size),
+        });
     }
-    if (t.key == MINUS) & t.glued & u.digits {
-        return Taken {
+    if (t.key == MINUS) & t.glued {
+        let size = u.value?;
+        return Some(Taken {
             used: 2,
-            value: Value::Literal(true, u.value),
-        };
+            value: Value::Literal(true, size),
+        });
     }
-    Taken {
-        used: 0,
-        value: Value::Literal(false, 0),
-    }
+    None
 }
 
-fn variable(key: u16) -> Taken
+fn variable(key: u16) -> Option<Taken>
     ensures { result ≡ variable_by key }
 {
     if is_variable(key) {
-        return Taken {
+        return Some(Taken {
             used: 1,
             value: Value::Variable(key),
-        };
+        });
     }
-    Taken {
-        used: 0,
-        value: Value::Literal(false, 0),
-    }
+    None
 }
 
-fn operand(t: Token, u: Token) -> Taken
+// Stays: tried `literal(t, u).or_else(|| variable(t.key))`, which left `returns` open; the match is as short.
+fn operand(t: Token, u: Token) -> Option<Taken>
     ensures { result ≡ operand_by t u }
 {
-    let l = literal(t, u);
-    if l.used == 0 {
-        return variable(t.key);
+    match literal(t, u) {
+        Some(taken) => Some(taken),
+        None => variable(t.key),
     }
-    l
 }
 
 impl Match {
@@ -256,7 +251,6 @@ impl Match {
         ensures { result ≡ no_match }
     {
         Match {
-            ok: true,
             place: 0,
             name: 0,
             written: 0,
@@ -268,110 +262,76 @@ impl Match {
         }
     }
 
-    // A slot that takes a word, by the word's key.
-    fn word(mut self, slot: u16, key: u16) -> Match
-        requires { self.place < 64 }
-        ensures { result ≡ word_by self slot key }
+    // So many tokens on.
+    // Stays: `place < 64` is asked by three functions, but is no invariant: a slot moves the place on by up to two, so it holds of what a slot is given and not of what it gives; the loop of `fill` bounds it.
+    fn onward(mut self, used: usize) -> Match
+        requires { (self.place < 64) × (used < 64) }
+        ensures { result ≡ onward self used }
     {
-        self.ok = self.ok & fits(slot, key);
-        self.place = self.place + 1;
-        if (slot == NEW) | (slot == TARGET) {
-            self.name = key;
-            return self;
-        }
-        if slot == WRITTEN {
-            self.written = key;
-            return self;
-        }
-        if slot == OPERATOR {
-            self.operator = key;
-            return self;
-        }
-        if slot == COMPARISON {
-            self.comparison = key;
-            return self;
-        }
+        self.place += used;
         self
     }
 
-    // A slot that takes a value.
-    fn value(self, slot: u16, x: Taken) -> Match
-        requires { (self.place < 64) × (x.used < 64) }
-        ensures { result ≡ value_by self slot x }
+    // A word on, where it fits.
+    fn word(self, fits: bool) -> Option<Match>
+        requires { self.place < 64 }
+        ensures { result ≡ word_by fits self }
     {
-        let value = x.value;
-        let left = self.left;
-        let right = self.right;
-        let start = self.start;
-        Match {
-            ok: self.ok & (x.used != 0),
-            place: self.place + x.used,
-            name: self.name,
-            written: self.written,
-            left: chosen(slot == LEFT, value, left),
-            operator: self.operator,
-            comparison: self.comparison,
-            right: chosen(slot == RIGHT, value, right),
-            start: chosen(slot == START, value, start),
+        if fits {
+            return Some(self.onward(1));
         }
+        None
     }
 
-    // A slot, with the next two tokens.
-    fn slot(self, slot: u16, t: Token, u: Token) -> Match
+    // What a slot takes of the next two tokens.
+    fn slot(mut self, slot: Slot, t: Token, u: Token) -> Option<Match>
         requires { self.place < 64 }
         ensures { result ≡ slot_by self slot t u }
     {
-        if (slot == LEFT) | (slot == RIGHT) | (slot == START) {
-            return self.value(slot, found(slot, t, u));
+        match slot {
+            Slot::Is(key) => self.word(key == t.key),
+            Slot::New => {
+                self.name = t.key;
+                self.word(names::has_two_characters(t.key))
+            }
+            Slot::Target => {
+                self.name = t.key;
+                self.word(names::is_user_name(t.key))
+            }
+            Slot::Written => {
+                self.written = t.key;
+                self.word(is_variable(t.key))
+            }
+            Slot::Left => {
+                let taken = operand(t, u)?;
+                self.left = taken.value;
+                Some(self.onward(taken.used))
+            }
+            Slot::Right => {
+                let taken = operand(t, u)?;
+                self.right = taken.value;
+                Some(self.onward(taken.used))
+            }
+            Slot::Start => {
+                let taken = literal(t, u)?;
+                self.start = taken.value;
+                Some(self.onward(taken.used))
+            }
+            Slot::Operator => {
+                self.operator = t.key;
+                self.word(is_operator(t.key))
+            }
+            Slot::Comparison => {
+                self.comparison = t.key;
+                self.word(is_comparison(t.key))
+            }
+            Slot::End => Some(self),
         }
-        self.word(slot, t.key)
     }
-}
-
-// The word of this key fits the slot.
-fn fits(slot: u16, key: u16) -> bool
-    ensures { result ≡ fits_by slot key }
-{
-    if slot == NEW {
-        return names::has_two_characters(key);
-    }
-    if slot == TARGET {
-        return names::is_user_name(key);
-    }
-    if slot == WRITTEN {
-        return is_variable(key);
-    }
-    if slot == OPERATOR {
-        return is_operator(key);
-    }
-    if slot == COMPARISON {
-        return is_comparison(key);
-    }
-    slot == key
-}
-
-// What a slot for a value finds.
-fn found(slot: u16, t: Token, u: Token) -> Taken
-    ensures { result ≡ found_by slot t u }
-{
-    if slot == START {
-        return literal(t, u);
-    }
-    operand(t, u)
-}
-
-// The first value where it is asked for, else the second.
-fn chosen(first: bool, x: Value, y: Value) -> Value
-    ensures { result ≡ cond first x y }
-{
-    if first {
-        return x;
-    }
-    y
 }
 
 // The slots of a form.
-fn slots(form: usize) -> [u16; 6]
+fn slots(form: usize) -> [Slot; 6]
     requires { form < 21 }
     ensures { result ≡ slots_of form }
 {
@@ -382,59 +342,36 @@ fn slots(form: usize) -> [u16; 6]
 fn first_form(first: u16) -> usize
     ensures { result ≡ first_form first }
 {
-    if first == LB {
-        return AT_LB;
+    match first {
+        LB => AT_LB,
+        VA => AT_VA,
+        IC => AT_IC,
+        DC => AT_DC,
+        BR => AT_BR,
+        CL => AT_CL,
+        RT => AT_RT,
+        E => AT_E,
+        H => AT_H,
+        OE => AT_OE,
+        MA => AT_MA,
+        MR => AT_MR,
+        SL => AT_SL,
+        PR => AT_PR,
+        _ => AT_ASSIGNMENT,
     }
-    if first == VA {
-        return AT_VA;
-    }
-    if first == IC {
-        return AT_IC;
-    }
-    if first == DC {
-        return AT_DC;
-    }
-    if first == BR {
-        return AT_BR;
-    }
-    if first == CL {
-        return AT_CL;
-    }
-    if first == RT {
-        return AT_RT;
-    }
-    if first == E {
-        return AT_E;
-    }
-    if first == H {
-        return AT_H;
-    }
-    if first == OE {
-        return AT_OE;
-    }
-    if first == MA {
-        return AT_MA;
-    }
-    if first == MR {
-        return AT_MR;
-    }
-    if first == SL {
-        return AT_SL;
-    }
-    if first == PR {
-        return AT_PR;
-    }
-    AT_ASSIGNMENT
 }
 
 // So many tokens are too many for this form, and may fill the one behind it; those of OE are told apart by the second token.
 fn is_longer(form: usize, second: u16, count: usize) -> bool
     ensures { result ≡ longer_by form second count }
 {
-    (((form == AT_VA) | (form == AT_BR) | (form == AT_CL)) & (2 < count))
-        | ((form == AT_ASSIGNMENT) & (4 < count))
-        | ((form == AT_H) & (1 < count))
-        | ((form == AT_OE) & (second == ZERO))
+    match form {
+        AT_VA | AT_BR | AT_CL => 2 < count,
+        AT_ASSIGNMENT => 4 < count,
+        AT_H => 1 < count,
+        AT_OE => second == ZERO,
+        _ => false,
+    }
 }
 
 // The one form that so many tokens may fill, by the keys of the first two.
@@ -448,23 +385,18 @@ pub fn form_for(first: u16, second: u16, count: usize) -> usize
     form
 }
 
-// What the slots of a form take of the tokens.
-pub fn fill(form: usize, ts: Tokens) -> Match
+// What the slots of a form take of the tokens; none where one of them takes nothing.
+pub fn fill(form: usize, ts: Tokens) -> Option<Match>
     requires { form < 21 }
     ensures { result ≡ fill_by (slots_of form) ts.at no_match }
 {
-    let slots = slots(form);
     let at = ts.at;
     let mut m = Match::none();
-    let mut k: usize = 0;
-    while k < SLOTS {
-        let slot = slots[k];
-        if (slot == NOTHING) | !m.ok {
-            return m;
+    for slot in slots(form) {
+        if let Slot::End = slot {
+            return Some(m);
         }
-        let place = m.place;
-        m = m.slot(slot, at[place], at[place + 1]);
-        k += 1;
+        m = m.slot(slot, at[m.place], at[m.place + 1])?;
     }
-    m
+    Some(m)
 }

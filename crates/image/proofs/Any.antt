@@ -2,11 +2,10 @@
 -- Assumes nothing.
 use mathlib.Core.Path.{◌≡◌, refl, sym, ap, ◌∙◌}
 use mathlib.Core.Bool.{Bool, true, false}
-use mathlib.Core.List.{List, ◌∷◌}
 use Prim.Native.Nat.{ℕ, zero, suc, ◌+◌, ◌≤◌, ◌<◌}
 use native.Mathlib.Numerals.{add-one}
 use native.Mathlib.Omega.{arith}
-use Rattle.numbers.specs.Tests.{any_of, any_below}
+use Rattle.numbers.specs.Tests.{any_below}
 use Rattle.numbers.proofs.Tests.{any_below_lem}
 
 -- A search over the numbers k below n: none yet; one more without; one that is; all without. What a turn looked at is r.
@@ -30,13 +29,3 @@ pub same_search : (n : ℕ) {p q : ℕ → Bool} → ((k : ℕ) → k < n → p 
 unfolding any_below
 same_search zero f = refl
 same_search (suc n) f = rw (same_search n (λ k h. f k (omega arith)), f n (omega arith))
-
--- A search over a list whose first element was looked at.
-module _ {A : Type 0} (p : A → Bool) {l rest : List A} {x : A} (split : l ≡ x ∷ rest) where
-  pub past_one : {r : Bool} → r ≡ p x → r ≡ false → any_of p rest ≡ any_of p l
-  unfolding any_of
-  past_one e f = rw (split, ← e, f)
-
-  pub at_one : {r : Bool} → r ≡ p x → r ≡ true → true ≡ any_of p l
-  unfolding any_of
-  at_one e f = rw (split, ← e, f)

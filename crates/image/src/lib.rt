@@ -57,6 +57,7 @@ pub const VARIABLE_ZEROS: usize = 2;
 pub const START_VALUE: usize = 4;
 
 // The shapes of an operand that is there; the right one counts four times.
+// Stays: these are bytes of an image, of which any may stand there: `operand_at` and `good_operand` (specs/) speak of each. `program::Operand` is the enum.
 pub const LITERAL: u8 = 1;
 
 pub const VARIABLE: u8 = 2;
@@ -64,49 +65,46 @@ pub const VARIABLE: u8 = 2;
 pub const RIGHT_SHAPE: u8 = 4;
 
 // The length of an image with these counts.
+// Stays: the new form is no plainer: this and `write_trailer` alone take the three counts, and each caller would build a struct of them for one call.
 pub fn image_length(cells: u16, labels: u16, variables: u16) -> usize
     ensures { result ≡ image_length cells labels variables }
 {
-    CELL_BYTES * (cells as usize)
-        + (LABEL_BYTES * (labels as usize)
-            + (VARIABLE_BYTES * (variables as usize) + TRAILER_BYTES))
+    CELL_BYTES * usize::from(cells)
+        + (LABEL_BYTES * usize::from(labels)
+            + (VARIABLE_BYTES * usize::from(variables) + TRAILER_BYTES))
 }
 
 // Where the label record with this number stands, in an image of so many cells.
 pub fn label_place(cells: u16, number: u16) -> usize
     ensures { result ≡ label_place_of cells number }
 {
-    CELL_BYTES * (cells as usize) + LABEL_BYTES * (number as usize)
+    CELL_BYTES * usize::from(cells) + LABEL_BYTES * usize::from(number)
 }
 
 // Where the variable record with this number stands, behind so many cells and labels.
 pub fn variable_place(cells: u16, labels: u16, number: u16) -> usize
     ensures { result ≡ variable_place_of cells labels number }
 {
-    CELL_BYTES * (cells as usize)
-        + (LABEL_BYTES * (labels as usize) + VARIABLE_BYTES * (number as usize))
+    CELL_BYTES * usize::from(cells)
+        + (LABEL_BYTES * usize::from(labels) + VARIABLE_BYTES * usize::from(number))
 }
 
 // One byte; 0 past the end.
 pub fn byte(s: &[u8], place: usize) -> u8
     ensures { result ≡ field 1 place s.now }
 {
-    if s.len() <= place {
-        return 0;
-    }
-    s[place]
+    s.get(place).copied().unwrap_or(0)
 }
 
 // The trailer's place: 16 bytes before the end, or the start of what is shorter.
 fn trailer_place(s: &[u8]) -> usize
     ensures { result ≡ trailer_place s.now }
 {
-    if s.len() < TRAILER_BYTES {
-        return 0;
-    }
-    s.len() - TRAILER_BYTES
+    s.len().saturating_sub(TRAILER_BYTES)
 }
 
+// The six fields of the trailer.
+// Stays: the new form is no plainer: each is one line, `read2` or `read4` at its place, under the name of its definition in specs/Layout.antt, which `cell_count_back` and its kin (proofs/Back.antt) go by.
 pub fn first_label_place(s: &[u8]) -> u32
     ensures { result ≡ first_label_place s.now }
 {
@@ -148,20 +146,18 @@ fn operand_at(s: &[u8], shape: u8, place: usize) -> Operand
     ensures { result ≡ operand_at shape place s.now }
 {
     let number = numbers::read4(s, place);
-    if shape == LITERAL {
-        return Operand::Literal(numbers::signed(number));
+    match shape {
+        LITERAL => Operand::Literal(numbers::signed(number)),
+        VARIABLE => Operand::Variable(number),
+        _ => Operand::Nothing,
     }
-    if shape == VARIABLE {
-        return Operand::Variable(number);
-    }
-    Operand::Nothing
 }
 
 // The cell with this number, from 0.
 pub fn cell_at(s: &[u8], number: u16) -> Cell
     ensures { result ≡ cell_at s.now number }
 {
-    let place = CELL_BYTES * (number as usize);
+    let place = CELL_BYTES * usize::from(number);
     let operation = byte(s, place);
     let written = byte(s, place + WRITTEN);
     let selector = byte(s, place + SELECTOR);
@@ -170,12 +166,12 @@ pub fn cell_at(s: &[u8], number: u16) -> Cell
     let right = operand_at(s, shapes / RIGHT_SHAPE, place + RIGHT);
     let target = numbers::read2(s, place + TARGET);
     Cell {
-        operation: operation,
-        written: written as u16,
-        selector: selector,
-        left: left,
-        right: right,
-        target: target,
+        operation,
+        written: u16::from(written),
+        selector,
+        left,
+        right,
+        target,
     }
 }
 

@@ -37,11 +37,9 @@ fn input(vars: &mut [i32; 64], number: u8, value: i32)
     requires { Inputs vars.old × ((1 ≤ number) × (number ≤ 4)) × Bit value }
     ensures { vars.new ≡ input number value vars.old }
 {
-    let i = (Variable::I1 as usize) + (number as usize) - 1;
-    vars[i] = value;
-    let all = Variable::IN as usize;
+    vars[(Variable::I1 as usize) + (number as usize) - 1] = value;
     let sum = all_inputs(vars);
-    vars[all] = sum;
+    vars[Variable::IN as usize] = sum;
 }
 
 // Arrival: a move is over, and P is where it went; else nothing happens. The motion after it is handed back.
@@ -51,10 +49,8 @@ fn arrive(vars: &mut [i32; 64], motion: Motion) -> Motion
     match motion {
         Motion::Still => motion,
         Motion::To(target) => {
-            let p = Variable::P as usize;
-            let moving = Variable::MV as usize;
-            vars[p] = target;
-            vars[moving] = 0;
+            vars[Variable::P as usize] = target;
+            vars[Variable::MV as usize] = 0;
             Motion::Still
         }
         Motion::Slewing(_) => motion,
@@ -62,6 +58,7 @@ fn arrive(vars: &mut [i32; 64], motion: Motion) -> Motion
 }
 
 // A good event happens to a machine with these variables and this motion, which are all that it can change. The motion after it is handed back.
+// Stays: a struct of the variables and the motion is no plainer: a machine has both among its fields, so `Machine::turn` would build it and take it apart in each turn.
 pub fn happen(vars: &mut [i32; 64], motion: Motion, event: Event) -> Motion
     requires { Inputs vars.old × (good_event event ≡ true) }
     ensures { Happened event vars.old motion vars.new result }
@@ -73,9 +70,7 @@ pub fn happen(vars: &mut [i32; 64], motion: Motion, event: Event) -> Motion
     if event.kind == Event::ARRIVAL {
         return arrive(vars, motion);
     }
-    let p = Variable::P as usize;
-    let place = event.value;
-    vars[p] = place;
+    vars[Variable::P as usize] = event.value;
     motion
 }
 
@@ -91,10 +86,8 @@ pub fn reach(
     ensures { Acted events.now first last vars.old motion vars.new result }
 {
     let mut here = motion;
-    let mut k = first;
-    while k < last {
+    for k in first..last {
         here = happen(vars, here, whole_event(events, k));
-        k += 1;
     }
     here
 }

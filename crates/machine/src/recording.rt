@@ -26,7 +26,7 @@ fn stored(v: u32, value: i32) -> Record
         return Record {
             kind: Record::OUTPUT,
             number: v - Variable::O1 + 1,
-            value: value,
+            value,
         };
     }
     nothing()
@@ -48,9 +48,9 @@ pub fn recorded(does: Effect) -> Record
             kind,
             value,
         } => Record {
-            kind: kind,
+            kind,
             number: 0,
-            value: value,
+            value,
         },
         Effect::Slews(velocity) => Record {
             kind: Record::SLEWS,
@@ -60,7 +60,7 @@ pub fn recorded(does: Effect) -> Record
         Effect::Prints(v, value) => Record {
             kind: Record::PRINTED,
             number: v,
-            value: value,
+            value,
         },
         _ => nothing(),
     }

@@ -1,12 +1,11 @@
 // One turn: the effect of the statement, applied to the machine, and EF cleared where the statement reads ER.
-ghost use Rattle.std.specs.Prelude.{◌≡◌, false, List, ℕ, ◌-◌, ◌≤◌, ◌<◌, ℤ, pos, length, set};
+ghost use Rattle.std.specs.Prelude.{◌≡◌, false, List, ℕ, ◌-◌, ◌≤◌, ◌<◌, ℤ, pos, set};
 ghost use Rattle.effects.specs.declared.Effect.TheVariants.{Fails};
 ghost use Rattle.acting.specs.Code.{clears_by};
 ghost use Rattle.machine.specs.Turn.{at, onward, stored, moving_bit, in_motion, slew, called, handled, returned, armed, held, failed, applied, clearing};
 ghost use Rattle.events.specs.Events.{bad_events, event_count};
 ghost use Rattle.machine.specs.Code.{Inputs, Ready, acts, changed, joined, whole, turn_by};
 
-use crate::calls::{calls_only, keep, last_place, release};
 use crate::happening::reach;
 use crate::recording::recorded;
 use crate::{Control, Machine, Motion, Place, Places, Turned};
@@ -42,17 +41,14 @@ impl Motion {
 
 // A store, which clears EF where it goes to ER.
 fn store(vars: &mut [i32; 64], v: u32, value: i32)
-    requires { length vars.old ≡ 64 }
     ensures { vars.new ≡ stored vars.old v value }
 {
     if Machine::VARIABLES <= v {
         return;
     }
-    let i = v as usize;
-    vars[i] = value;
+    vars[v as usize] = value;
     if v == Variable::ER {
-        let flag = Variable::EF as usize;
-        vars[flag] = 0;
+        vars[Variable::EF as usize] = 0;
         return;
     }
 }
@@ -61,23 +57,19 @@ fn store(vars: &mut [i32; 64], v: u32, value: i32)
 fn flag(vars: &mut [i32; 64], error: u8)
     ensures { vars.new ≡ set (set vars.old 10 (pos error)) 15 (pos 1) }
 {
-    let number = Variable::ER as usize;
-    let flag = Variable::EF as usize;
-    vars[number] = error as i32;
-    vars[flag] = 1;
+    vars[Variable::ER as usize] = error as i32;
+    vars[Variable::EF as usize] = 1;
 }
 
 // MV follows the motion.
 fn set_moving(vars: &mut [i32; 64], motion: Motion)
     ensures { vars.new ≡ set vars.old 14 (moving_bit motion) }
 {
-    let moving = Variable::MV as usize;
-    vars[moving] = motion.bit();
+    vars[Variable::MV as usize] = motion.bit();
 }
 
 // What an effect does to the variables.
 fn apply(vars: &mut [i32; 64], does: Effect)
-    requires { length vars.old ≡ 64 }
     ensures { vars.new ≡ changed does vars.old }
 {
     match does {
@@ -95,7 +87,6 @@ fn apply(vars: &mut [i32; 64], does: Effect)
 
 // The same, and behind it EF is cleared where the cell's statement clears it, with so many turns of a hold still to come. Where EF is 0, nothing need be asked.
 fn change(vars: &mut [i32; 64], cell: Cell, hold: u32, does: Effect)
-    requires { length vars.old ≡ 64 }
     ensures { vars.new ≡ clearing (clears_by cell hold does) (changed does vars.old) }
 {
     apply(vars, does);
@@ -109,14 +100,14 @@ fn change(vars: &mut [i32; 64], cell: Cell, hold: u32, does: Effect)
     }
 }
 
+// Stays: `self.next < 65535` in seven of these is no invariant of the type: `onward` and `held` hand back next + 1, and so 65535 from 65534.
 impl Control {
     // A call keeps the following cell.
     fn called(mut self, cell: u16) -> Control
         requires { (self.next < 65535) × (self.places.kept < 8) }
         ensures { (vars : List ℤ) → joined vars result ≡ called cell (joined vars self) }
     {
-        let places = self.places;
-        self.places = keep(places, Place::by_call(self.next + 1));
+        self.places = self.places.keep(Place::by_call(self.next + 1));
         self.next = cell;
         self
     }
@@ -126,8 +117,9 @@ impl Control {
         requires { (self.next < 65535) × (self.places.kept < 8) }
         ensures { (vars : List ℤ) → joined vars result ≡ handled (joined vars self) }
     {
-        let places = self.places;
-        self.places = keep(places, Place::by_handler(self.next + 1, self.handler));
+        self.places = self
+            .places
+            .keep(Place::by_handler(self.next + 1, self.handler));
         self.next = self.handler;
         self.handler = Machine::NO_HANDLER;
         self
@@ -139,8 +131,8 @@ impl Control {
         ensures { (vars : List ℤ) → joined vars result ≡ returned (joined vars self) }
     {
         let places = self.places;
-        self.places = release(places);
-        let place = last_place(places);
+        self.places = places.release();
+        let place = places.last_place();
         self.handler = place.rearmed(self.handler);
         self.next = place.cell;
         self
@@ -156,7 +148,7 @@ impl Control {
         if is_held {
             return self;
         }
-        self.next = self.next + 1;
+        self.next += 1;
         self
     }
 
@@ -164,8 +156,7 @@ impl Control {
     fn armed(mut self, cell: u16) -> Control
         ensures { (vars : List ℤ) → joined vars result ≡ armed cell (joined vars self) }
     {
-        let places = self.places;
-        self.places = calls_only(places);
+        self.places = self.places.calls_only();
         self.handler = cell;
         self
     }
@@ -201,19 +192,12 @@ impl Control {
     }
 
     // The axis moves.
-    fn moved(self, motion: Motion) -> Control
+    fn moved(mut self, motion: Motion) -> Control
         requires { self.next < 65535 }
         ensures { (vars : List ℤ) → joined (set vars 14 (moving_bit motion)) result ≡ onward (in_motion motion (joined vars self)) }
     {
-        let places = self.places;
-        Control {
-            next: self.next,
-            places: places,
-            handler: self.handler,
-            hold: self.hold,
-            motion: motion,
-        }
-        .onward()
+        self.motion = motion;
+        self.onward()
     }
 
     // What an effect comes to besides the variables, in a program with so many cells.
@@ -256,19 +240,17 @@ impl Control {
     fn turned(self, variables: [i32; 64], wrote: Record, stops: bool) -> Turned
         ensures { result ≡ whole variables self wrote stops }
     {
-        let places = self.places;
-        let motion = self.motion;
         Turned {
             machine: Machine {
-                variables: variables,
+                variables,
                 next: self.next,
-                places: places,
+                places: self.places,
                 handler: self.handler,
                 hold: self.hold,
-                motion: motion,
+                motion: self.motion,
             },
-            wrote: wrote,
-            stops: stops,
+            wrote,
+            stops,
         }
     }
 }
@@ -278,26 +260,26 @@ impl Machine {
     pub const VARIABLES: u32 = 64;
 
     // The handler of a machine that has none: no cell has this number.
+    // Stays: `no_handler` (specs/Turn.antt) is this number.
     pub const NO_HANDLER: u16 = 65535;
 
     // The next state, and what the turn records, of a program with so many cells: the events act, from the one with the first number to the one before
     // the last, then the statement.
+    // Stays: docs/PAPER.md names `Machine::turn`, `reach`, `later`, `go_on`, `course` and `visit`, so they take events as bytes, and each says itself that they are good and few.
     pub fn turn(self, cell: Cell, cells: u16, events: &[u8], first: usize, last: usize) -> Turned
         requires { (self.next < 65535) × Inputs self.variables × (bad_events events.now ≡ false) × ((first ≤ last) × (last ≤ event_count events.now)) × (event_count events.now ≤ 4096) }
         ensures { result ≡ turn_by cells cell (acts events.now first (last - first) self) }
     {
         let mut variables = self.variables;
-        let places = self.places;
-        let motion = self.motion;
-        let motion = reach(&mut variables, motion, events, first, last);
+        let motion = reach(&mut variables, self.motion, events, first, last);
         let does = effect(cell, &variables, self.places.kept, self.hold);
         change(&mut variables, cell, self.hold, does);
         let before = Control {
             next: self.next,
-            places: places,
+            places: self.places,
             handler: self.handler,
             hold: self.hold,
-            motion: motion,
+            motion,
         };
         let wrote = recorded(does);
         let stops = before.stops(does);

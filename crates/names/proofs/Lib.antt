@@ -1,4 +1,5 @@
 pub mod Lines
+pub mod Passing
 pub mod Arranging
 pub mod Asking
 pub mod Surveying

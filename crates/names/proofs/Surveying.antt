@@ -1,133 +1,102 @@
--- A pass over the lines of a text: what is known at the start of each line, and at the end.
+-- The faults of the lines of a text, one line after the other: what is known at the start of each line, and at the end.
 -- Assumes nothing.
 use mathlib.Core.Path.{◌≡◌, refl, sym, ap, ◌∙◌}
-use mathlib.Core.List.{List, [], ◌∷◌}
-use Prim.Native.Nat.{ℕ, zero, suc, ◌+◌, ◌-◌, ◌%◌, ◌≤◌, ◌<◌}
+use mathlib.Core.List.{List, [], ◌∷◌, ◌++◌, map, map-append, append-nil}
+use Prim.Native.Nat.{ℕ, suc, ◌+◌, ◌%◌, ◌<◌}
+use native.Mathlib.Numerals.{add-one}
 use native.Mathlib.Omega.{arith}
 use borrow.Author.Tests.{eq-eqb, ne_eqb}
-use lib.ListN.{length, take, drop, length-append}
+use lib.ListN.{length, length-map}
 use lib.Seq.{sets, length-sets}
+use Rattle.std.specs.Prelude.{Ok, Err}
 use Rattle.numbers.specs.Bytes.{bytes}
 use Rattle.numbers.specs.Tests.{lowest}
-use Rattle.text.specs.Faults.{heard, said, how_many, makes_cell, makes_label, makes_variable, faults, fault, faults_from, text_faults, line_faults, first_fault}
-use Rattle.text.specs.Code.{LineAt}
-use Rattle.reading.specs.Code.{reading_of}
-use Rattle.text.specs.declared.Span.{Span}
-use Rattle.reading.specs.declared.Reading.{Reading}
-use Rattle.text.proofs.Lines.{starts_first, lines_end}
+use Rattle.text.specs.Lines.{lines}
+use Rattle.text.specs.Faults.{heard, said, faults, fault, faults_from, text_faults, line_faults, first_fault}
+use Rattle.text.specs.declared.Fault.{Fault}
 use Rattle.text.proofs.Faults.{first_of, first_of_lines}
-use Rattle.reading.proofs.Heard.{reading_kind}
+use Rattle.reading.specs.Code.{Reading, told_by, reading_of}
+use Rattle.reading.proofs.Heard.{reading_told}
+use Rattle.reading.specs.declared.Said.{Said}
 use Rattle.rows.specs.Rows.{Row, arranged}
 use Rattle.names.specs.declared.Counts.{Counts}
-use Rattle.names.specs.declared.Passed.{Passed}
-use Rattle.names.specs.Code.{Below, none_passed, Reached, OnePassed, AllJudged, Surveyed, counted, counts_of, fault_by, faults_on}
-use Rattle.names.proofs.Lines.{said_before_lem, said_split, said_none, said_all, few_said, count_most, counted_more}
+use Rattle.names.specs.Code.{Reached, AllJudged, Surveyed, counted, counts_of, fault_by, faults_on}
+use Rattle.names.proofs.Passing.{reached_first, reached_more}
+use Rattle.names.specs.Code as Code
 use Rattle.names.proofs.Asking.{fault_by_lem}
 
-reached_first : (s : List ℕ) → Reached s none_passed
-unfolding counts_of how_many
-reached_first s =
-    record {
-      starts = starts_first s;
-      near = omega arith;
-      lines = rw said_none;
-      counts = rw said_none;
-    }
-
--- The faults from the first line on are all; from the end on there are none.
-faults_all : (s : List ℕ) → faults_on s 0 ≡ line_faults s
+-- The faults from the first line on are all; behind the last there are none.
+faults_all : (s : List ℕ) → faults_on s [] (lines s) ≡ line_faults s
 unfolding faults_on line_faults text_faults
-faults_all s = rw said_none
+faults_all s = refl
 
-faults_end : (s : List ℕ) (at : ℕ) → length s ≤ at → faults_on s at ≡ []
-unfolding faults_on faults_from
-faults_end s at h = rw (lines_end s at h)
+-- One line, by its reading and its lowest fault.
+module _ {s : List ℕ} {before : List (List ℕ)} {n : Counts} {k : ℕ} {rest : List (List ℕ)} (h : Reached s before n k rest) {l : List ℕ} {more : List (List ℕ)} (r : rest ≡ l ∷ more) where
+  whole_said : map heard before ++ (heard l ∷ map heard more) ≡ said s
+  unfolding said
+  whole_said = sym (map-append heard before (l ∷ more)) ∙ ap (map heard) (rw r at h.whole)
 
--- The counts before a place are no more than the bytes before it.
-take_few : (at : ℕ) (s : List ℕ) → length (take at s) ≤ at
-take_few zero s = omega arith
-take_few (suc at) [] = omega arith
-take_few (suc at) (x ∷ xs) = let h = take_few at xs in omega arith
-
-module _ {s : List ℕ} {p : Passed} (h : Reached s p) where
-  pub counts_below : (most : ℕ) → p.next < most → Below most p.counts
-  unfolding counts_of
-  counts_below most l =
-      let xs = said (take p.next s) in
-      let k = few_said (take p.next s) in
-      let t = take_few p.next s in
-      rw h.counts
-      (record {
-        cells = omega (arith, count_most makes_cell xs);
-        labels = omega (arith, count_most makes_label xs);
-        variables = omega (arith, count_most makes_variable xs);
-      })
-
-  -- There are no more lines than bytes before a place.
-  pub lines_near : p.lines ≤ p.next
-  lines_near = omega (arith, h.lines, few_said (take p.next s), take_few p.next s)
-
-  -- One line, by its span, its reading, its lowest fault and the counts with it.
-  pub line_passed : {r : Span} {q : Reading} {rows : List Row} {f : ℕ} {m : Counts} → rows ≡ arranged (said s)
-      → LineAt s p.next r → q ≡ reading_of (take (r.end - p.next) (drop p.next s))
-      → f ≡ fault_by rows (p.lines + 1) p.counts q → m ≡ counted p.counts q.kind
-      → OnePassed s p (record { fault = f; counts = m; lines = p.lines + 1; next = r.next })
+  line_passed : {q : Reading} {rows : List Row} {v : ℕ} → q ≡ reading_of l → rows ≡ arranged (said s) → v ≡ fault_by rows (k + 1) n q
+      → faults_on s before rest ≡ v ∷ faults_on s (before ++ (l ∷ [])) more
   unfolding faults_on faults_from
-  line_passed {r} {q} {rows} {f} a l e g c =
-      let before = said (take p.next s) in
-      let here : List ℕ = take (r.end - p.next) (drop p.next s) in
-      let whole = said_split s p.next r h.starts l in
-      let line : p.lines + 1 ≡ suc (length before) = omega (arith, h.lines) in
-      let lowest_here : lowest 2 (faults (said s) before here) ≡ f = sym (g ∙ rw (a, line, h.counts, e) (fault_by_lem s before here (said (drop r.next s)) whole)) in
-      record {
-        fault = rw (said_before_lem s p.next r h.starts l, l.cut, lowest_here);
-        one = omega arith;
-        moves = l.moves;
-        reached =
-            record {
-              starts = l.starts;
-              near = l.fits;
-              lines = omega (arith, line, ap length (said_before_lem s p.next r h.starts l), length-append before (heard here ∷ []));
-              counts = c ∙ rw (h.counts, e, reading_kind here, said_before_lem s p.next r h.starts l) (counted_more before (heard here));
-            };
-      }
+  line_passed {q} {rows} {v} e a g =
+      let xs = map heard before in
+      let long : length xs ≡ k = length-map before heard ∙ h.many in
+      let line : k + 1 ≡ suc (length xs) = omega arith in
+      let here : lowest 2 (faults (said s) xs l) ≡ v = sym (g ∙ rw (a, line, h.counts, e) (fault_by_lem s xs l (map heard more) whole_said)) in
+      rw (r, here, map-append heard before (l ∷ []))
 
--- Behind the lines that are passed: the first fault is that of the lines from here on.
-pub record Surveying (s : List ℕ) (p : Passed) : Type 0 where
-  pub reached : Reached s p
-  pub left : first_of (suc p.lines) (faults_on s p.next) ≡ first_fault s
+-- So many lines are passed, none of them faulty: the first fault is that of the lines from here on.
+pub record Surveying (s : List ℕ) (n : Counts) (k : ℕ) (rest : List (List ℕ)) : Type 0 where
+  pub before : List (List ℕ)
+  pub reached : Reached s before n k rest
+  pub left : first_of (suc k) (faults_on s before rest) ≡ first_fault s
 
-pub surveying : {s : List ℕ} {p : Passed} → p ≡ none_passed → Surveying s p
-surveying {s} e = rw e (record { reached = reached_first s; left = ap (first_of 1) (faults_all s) ∙ first_of_lines s })
+pub surveying : (s t : List ℕ) (k : ℕ) → t ≡ s → k ≡ 0 → Surveying s (record { cells = 0; labels = 0; variables = 0 }) k (lines t)
+surveying s t k e z = rw (e, z) (record { before = []; reached = reached_first s; left = ap (first_of 1) (faults_all s) ∙ first_of_lines s })
 
-module _ {s : List ℕ} {p : Passed} (h : Surveying s p) where
-  module _ {r : Passed} (l : OnePassed s p r) where
-    pub survey_more : r.fault ≡ 0 → Surveying s r
+module _ {s : List ℕ} {n : Counts} {k : ℕ} {rest : List (List ℕ)} (h : Surveying s n k rest) where
+  module _ {l : List ℕ} {more : List (List ℕ)} {q : Reading} {rows : List Row} {v i : ℕ} (r : rest ≡ l ∷ more) (u : i ≡ k) (e : q ≡ reading_of l)
+      (a : rows ≡ arranged (said s)) (g : v ≡ fault_by rows (i + 1) n q) where
+    first_left : first_of (suc k) (v ∷ faults_on s (h.before ++ (l ∷ [])) more) ≡ first_fault s
+    first_left = rw (line_passed h.reached r e a (g ∙ rw u)) at h.left
+
+    pub survey_more : {x : Said} {m : Counts} {j : ℕ} → v ≡ 0 → j ≡ k + 1 → x ≡ told_by q → m ≡ counted n x → Surveying s m j more
     unfolding first_of
-    survey_more z = record { reached = l.reached; left = rw l.one (rw (l.fault, eq-eqb r.fault 0 z) at h.left) }
+    survey_more {x} {m} {j} z w t c =
+        rw w
+        (record {
+          before = h.before ++ (l ∷ []);
+          reached = reached_more h.reached r (c ∙ ap (counted n) (t ∙ rw e (reading_told l)));
+          left = rw (add-one k) (rw (eq-eqb v 0 z) at first_left);
+        })
 
-    pub fault_here : (r.fault ≡ 0 → ⊥) → Surveyed s (record { fault = fault r.fault r.lines; counts = r.counts })
+    pub fault_here : (v ≡ 0 → ⊥) → Surveyed s (Err (fault v (i + 1)))
     unfolding first_of
-    fault_here z =
-        let first : fault r.fault r.lines ≡ first_fault s = rw l.one (rw (l.fault, ne_eqb r.fault 0 z) at h.left) in
-        record { fault = first; counts = λ y. absurd (z (ap (λ x. x.number) first ∙ y)) }
+    fault_here none =
+        let first : fault v (suc k) ≡ first_fault s = rw (ne_eqb v 0 none) at first_left in
+        record { first = rw (u, add-one k) first; there = none }
 
-  pub fault_none : length s ≤ p.next → Surveyed s (record { fault = fault 0 0; counts = p.counts })
-  unfolding first_of
+  pub fault_none : rest ≡ [] → Surveyed s (Ok n)
+  unfolding first_of faults_on faults_from said
   fault_none e =
-      record { fault = rw (faults_end s p.next e) at h.left; counts = λ z. h.reached.counts ∙ ap counts_of (said_all s p.next e) }
+      let none : fault 0 0 ≡ first_fault s = rw e at h.left in
+      let all : h.before ≡ lines s = sym (append-nil h.before) ∙ (rw e at h.reached.whole) in
+      record { clear = ap (λ (f : Fault). f.number) (sym none); counts = h.reached.counts ∙ rw all }
 
--- Behind the lines that are passed: those that are left, with their faults over what the buffer has now, give the whole.
-pub record Judging (s b₀ b : List ℕ) (p : Passed) : Type 0 where
-  pub reached : Reached s p
+-- So many lines are judged: those that are left, with their faults over what the buffer has now, give the whole.
+pub record Judging (s b₀ b : List ℕ) (n : Counts) (k : ℕ) (rest : List (List ℕ)) : Type 0 where
+  pub before : List (List ℕ)
+  pub reached : Reached s before n k rest
   pub size : length b ≡ length b₀
-  pub counted : p.lines + length (faults_on s p.next) ≡ length (line_faults s)
-  pub written : sets b p.lines (faults_on s p.next) ≡ sets b₀ 0 (line_faults s)
+  pub counted : k + length (faults_on s before rest) ≡ length (line_faults s)
+  pub written : sets b k (faults_on s before rest) ≡ sets b₀ 0 (line_faults s)
 
-pub judging : {s b : List ℕ} {p : Passed} → p ≡ none_passed → Judging s b b p
-judging {s} {b} e =
+pub judging : (s b t : List ℕ) → t ≡ s → Judging s b b (record { cells = 0; labels = 0; variables = 0 }) 0 (lines t)
+judging s b t e =
     rw e
     (record {
+      before = [];
       reached = reached_first s;
       size = refl;
       counted = rw (faults_all s) (omega arith);
@@ -139,17 +108,21 @@ one_byte : (n : ℕ) → n < 256 → bytes 1 n ≡ n ∷ []
 unfolding bytes
 one_byte n h = let e : n % 256 ≡ n = omega arith in rw e
 
-module _ {s b₀ b : List ℕ} {p : Passed} (h : Judging s b₀ b p) where
-  pub judge_more : {r : Passed} {b' : List ℕ} → OnePassed s p r → r.fault < 256 → b' ≡ sets b p.lines (bytes 1 r.fault) → Judging s b₀ b' r
-  judge_more {r} {b'} l f w =
-      let e : b' ≡ sets b p.lines (r.fault ∷ []) = w ∙ ap (sets b p.lines) (one_byte r.fault f) in
+module _ {s b₀ b : List ℕ} {n : Counts} {k : ℕ} {rest : List (List ℕ)} (h : Judging s b₀ b n k rest) where
+  pub judge_more : {l : List ℕ} {more : List (List ℕ)} {q : Reading} {rows : List Row} {x : Said} {m : Counts} {b' : List ℕ} {v : ℕ} → rest ≡ l ∷ more
+      → q ≡ reading_of l → rows ≡ arranged (said s) → v ≡ fault_by rows (k + 1) n q → x ≡ told_by q → m ≡ counted n x
+      → v < 256 → b' ≡ sets b k (bytes 1 v) → Judging s b₀ b' m (k + 1) more
+  judge_more {l} {more} {b'} {v} r e a g t c i w =
+      let one : b' ≡ sets b k (v ∷ []) = w ∙ ap (sets b k) (one_byte v i) in
+      let next = line_passed h.reached r e a g in
       record {
-        reached = l.reached;
-        size = rw e (length-sets b p.lines (r.fault ∷ []) ∙ h.size);
-        counted = omega (arith, l.one, ap length l.fault, h.counted);
-        written = rw (e, l.one) (rw l.fault at h.written);
+        before = h.before ++ (l ∷ []);
+        reached = reached_more h.reached r (c ∙ ap (λ (z : Said). Code.counted n z) (t ∙ rw e (reading_told l)));
+        size = ap length one ∙ length-sets b k (v ∷ []) ∙ h.size;
+        counted = omega (arith, ap length next, h.counted);
+        written = rw (one, add-one k) (rw next at h.written);
       }
 
-  pub judged_all : length s ≤ p.next → AllJudged s p.lines b₀ b
-  judged_all e =
-      record { count = omega (arith, ap length (faults_end s p.next e), h.counted); buffer = rw (faults_end s p.next e) at h.written }
+  pub judged_all : rest ≡ [] → AllJudged s k b₀ b
+  unfolding faults_on faults_from
+  judged_all e = record { count = let c = (rw e at h.counted) in omega (arith, c); buffer = rw e at h.written }

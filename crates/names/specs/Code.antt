@@ -1,6 +1,6 @@
 -- What the code finds by walking the lines of a text, with names as keys and by their rows. No demand reaches this; proofs/ ties it to the paper's definitions.
 -- Assumes nothing.
-use Rattle.std.specs.Prelude.{◌≡◌, Bool, false, cond, ◌&&◌, ◌||◌, not, List, [], ◌∷◌, map, ℕ, suc, ◌+◌, ◌≤◌, ◌<◌, eqb, leb, ltb, length, take, drop}
+use Rattle.std.specs.Prelude.{◌≡◌, Bool, false, ◌&&◌, ◌||◌, not, List, [], ◌∷◌, ◌++◌, map, ℕ, ◌+◌, ◌<◌, eqb, leb, ltb, length, Some, None, Result, Ok, Err}
 use Rattle.std.proofs.lemmas.List.Edits.{sets}
 use Rattle.numbers.specs.Tests.{lowest}
 use Rattle.program.specs.Names.{Name, paper_variable}
@@ -12,19 +12,24 @@ use Rattle.program.specs.declared.Operand.{Operand}
 use Rattle.program.specs.declared.Operand.TheVariants as O
 use Rattle.text.specs.Lines.{lines}
 use Rattle.text.specs.Forms.{Line}
-use Rattle.text.specs.Code.{Starts}
-use Rattle.text.specs.Faults.{said, faults_from, line_faults, first_fault, how_many, makes_cell, makes_label, makes_variable}
-use Rattle.reading.specs.Code.{aims_at, in_operand, declaring}
-use Rattle.rows.specs.Rows.{Row, row, kind, line, row_at, enter, plus}
-use Rattle.reading.specs.declared.Reading.{Reading}
+use Rattle.text.specs.Faults.{heard, said, faults_from, line_faults, first_fault, how_many, makes_cell, makes_label, makes_variable}
+use Rattle.text.specs.declared.Fault.{Fault}
+use Rattle.reading.specs.Code.{Reading, fault_number, faulty_by, told_by, in_declared, in_cell, aims_at, in_operand}
+use Rattle.reading.specs.declared.Said.{Said}
+use Rattle.reading.specs.declared.Said.TheVariants as S
+use Rattle.rows.specs.Rows.{Row, row, kind, kind_number, row_at, enter}
+use Rattle.rows.specs.declared.Kind.{Kind}
+use Rattle.rows.specs.declared.Kind.TheVariants as K
 use Rattle.names.specs.declared.Counts.{Counts}
-use Rattle.names.specs.declared.Passed.{Passed}
-use Rattle.names.specs.declared.Survey.{Survey}
+use Rattle.names.specs.declared.TextFault.{TextFault}
+use Rattle.names.specs.declared.TextFault.TheVariants as F
 
--- A line of this kind, with this number and so many cells and variables before it, enters the name with this key.
-unfoldable pub entered_by : ℕ → ℕ → ℕ → ℕ → ℕ → List Row → List Row
-entered_by n cells variables kind k rows =
-    cond (eqb kind 1) (enter rows (name_of k) (row 1 n cells)) (cond (eqb kind 2) (enter rows (name_of k) (row 2 n variables)) rows)
+-- A line that says this, with this number and so many cells and variables before it, enters the name that it declares.
+unfoldable pub entered_by : ℕ → ℕ → ℕ → Said → List Row → List Row
+entered_by n cells variables S.Blank rows = rows
+entered_by n cells variables (S.Label k) rows = enter rows (name_of k) (row K.Label n cells)
+entered_by n cells variables (S.Declared k z) rows = enter rows (name_of k) (row K.Variable n variables)
+entered_by n cells variables (S.Acts c) rows = rows
 
 -- The keys in a cell are those of names of two characters at most.
 abbrev pub KeyOperand : Operand → Type 0
@@ -36,12 +41,31 @@ pub record Keyed (c : Cell) : Type 0 where
   pub left : KeyOperand c.left
   pub right : KeyOperand c.right
 
+-- The keys in the cell of a line that was read so.
+abbrev pub SaidKeyed : Said → Type 0
+SaidKeyed S.Blank = Unit {0}
+SaidKeyed (S.Label k) = Unit {0}
+SaidKeyed (S.Declared k z) = Unit {0}
+SaidKeyed (S.Acts c) = Keyed c
+
+abbrev pub ReadKeyed : Reading → Type 0
+ReadKeyed (Ok x) = SaidKeyed x
+ReadKeyed (Err e) = Unit {0}
+
+-- The name of a row is first declared as this; by a line before the one with this number.
+unfoldable pub first_as : Row → Kind → Bool
+first_as r k = eqb (kind r) (kind_number k)
+
+unfoldable pub earlier : Row → ℕ → Bool
+earlier None n = false
+earlier (Some d) n = ltb d.line n
+
 -- A cell with keys names what is not first declared so, by the rows of the names.
 unfoldable pub unknown_target : List Row → ℕ → Bool
-unknown_target rows k = aims_at k && not (eqb (kind (row_at rows (name_of k))) 1)
+unknown_target rows k = aims_at k && not (first_as (row_at rows (name_of k)) K.Label)
 
 unfoldable pub unknown_variable_in : List Row → Name → Bool
-unknown_variable_in rows w = eqb (paper_variable w) 0 && not (eqb (kind (row_at rows w)) 2)
+unknown_variable_in rows w = eqb (paper_variable w) 0 && not (first_as (row_at rows w) K.Variable)
 
 unfoldable pub unknown_value_in : List Row → Value Name → Bool
 unknown_value_in rows (Literal z) = false
@@ -61,23 +85,26 @@ unknown_cell rows c =
 unfoldable pub read_only_key : ℕ → Bool
 read_only_key k = not (eqb k 0) && read_only (paper_variable (name_of k))
 
--- The line with this number and of this kind declares the name with this key behind a line that does.
-unfoldable pub repeated_key : List Row → ℕ → ℕ → ℕ → Bool
-repeated_key rows n kind k = declaring kind && ltb (line (row_at rows (name_of k))) n
+-- The line with this number declares a name behind a line that does.
+unfoldable pub repeated_by : List Row → ℕ → Said → Bool
+repeated_by rows n x = in_declared (λ w. earlier (row_at rows w) n) x
 
--- A line of this kind is one too many behind lines with these counts.
-unfoldable pub too_many_by : Counts → ℕ → Bool
-too_many_by n kind =
-    (eqb kind 3 && leb most_cells n.cells)
-    || ((eqb kind 1 && leb most_labels n.labels) || (eqb kind 2 && leb most_variables n.variables))
+-- A line is one too many behind lines with these counts.
+unfoldable pub too_many_by : Counts → Said → Bool
+too_many_by n S.Blank = false
+too_many_by n (S.Label k) = leb most_labels n.labels
+too_many_by n (S.Declared k z) = leb most_variables n.variables
+too_many_by n (S.Acts c) = leb most_cells n.cells
 
--- The counts of some lines, and the counts with one more line of this kind.
+-- The counts of some lines, and the counts with one more line.
 unfoldable pub counts_of : List Line → Counts
 counts_of xs = record { cells = how_many makes_cell xs; labels = how_many makes_label xs; variables = how_many makes_variable xs }
 
-unfoldable pub counted : Counts → ℕ → Counts
-counted n kind =
-    record { cells = plus (eqb kind 3) n.cells; labels = plus (eqb kind 1) n.labels; variables = plus (eqb kind 2) n.variables }
+unfoldable pub counted : Counts → Said → Counts
+counted n S.Blank = n
+counted n (S.Label k) = record { cells = n.cells; labels = n.labels + 1; variables = n.variables }
+counted n (S.Declared k z) = record { cells = n.cells; labels = n.labels; variables = n.variables + 1 }
+counted n (S.Acts c) = record { cells = n.cells + 1; labels = n.labels; variables = n.variables }
 
 -- Each count is below this number.
 pub record Below (most : ℕ) (n : Counts) : Type 0 where
@@ -85,44 +112,53 @@ pub record Below (most : ℕ) (n : Counts) : Type 0 where
   pub labels : n.labels < most
   pub variables : n.variables < most
 
+-- The number of a fault of a line in its text, and of its lowest, which is 0 where it has none.
+unfoldable pub number_of_fault : TextFault → ℕ
+number_of_fault (F.Own e) = fault_number e
+number_of_fault F.Repeated = 6
+number_of_fault F.TooMany = 7
+number_of_fault F.Undeclared = 8
+number_of_fault F.ReadOnly = 9
+
+unfoldable pub lowest_number : Result Unit TextFault → ℕ
+lowest_number (Ok u) = 0
+lowest_number (Err e) = number_of_fault e
+
 -- The lowest fault of the line with this number that was read so, behind lines with these counts.
 unfoldable pub fault_by : List Row → ℕ → Counts → Reading → ℕ
 fault_by rows line n r =
-    cond (eqb r.fault 0)
-    (lowest 6 (repeated_key rows line r.kind r.name ∷ too_many_by n r.kind ∷ unknown_cell rows r.cell ∷ read_only_key r.cell.written ∷ []))
-    r.fault
+    let x = told_by r in
+    faulty_by
+    (lowest 6
+    (repeated_by rows line x ∷ too_many_by n x ∷ in_cell (unknown_cell rows) x ∷ in_cell (λ c. read_only_key c.written) x ∷ [])) r
 
--- No line is passed.
-abbrev pub none_passed : Passed
-none_passed = record { fault = 0; counts = record { cells = 0; labels = 0; variables = 0 }; lines = 0; next = 0 }
+-- These lines of a text are passed, so many, with these counts, and those are left.
+pub record Reached (s : List ℕ) (before : List (List ℕ)) (n : Counts) (k : ℕ) (rest : List (List ℕ)) : Type 0 where
+  pub whole : before ++ rest ≡ lines s
+  pub many : length before ≡ k
+  pub counts : n ≡ counts_of (map heard before)
 
--- Lines of a text are passed: the next one starts here, or the text has ended; the counts are those of the lines before, and they are so many.
-pub record Reached (s : List ℕ) (p : Passed) : Type 0 where
-  pub starts : Starts s p.next
-  pub near : p.next ≤ length s + 1
-  pub lines : p.lines ≡ length (said (take p.next s))
-  pub counts : p.counts ≡ counts_of (said (take p.next s))
-
--- The lowest fault of each line from this place on.
-unfoldable pub faults_on : List ℕ → ℕ → List ℕ
-faults_on s at =
+-- The lowest fault of each of the lines that are left, behind these.
+unfoldable pub faults_on : List ℕ → List (List ℕ) → List (List ℕ) → List ℕ
+faults_on s passed rest =
     let text = said s in
-    let before = said (take at s) in
-    map (lowest 2) (faults_from text before (lines (drop at s)))
-
--- One line more is passed, and this is its lowest fault.
-pub record OnePassed (s : List ℕ) (p r : Passed) : Type 0 where
-  pub fault : faults_on s p.next ≡ r.fault ∷ faults_on s r.next
-  pub one : r.lines ≡ suc p.lines
-  pub moves : p.next < r.next
-  pub reached : Reached s r
+    let before = map heard passed in
+    map (lowest 2) (faults_from text before rest)
 
 -- So many lines were judged, and their lowest faults stand in the buffer over what that held, as far as there is room.
 pub record AllJudged (s : List ℕ) (r : ℕ) (old new : List ℕ) : Type 0 where
   pub count : r ≡ length (line_faults s)
   pub buffer : new ≡ sets old 0 (line_faults s)
 
--- What surveying a text gives: its first fault, and what its lines make where there is none.
-pub record Surveyed (s : List ℕ) (r : Survey) : Type 0 where
-  pub fault : r.fault ≡ first_fault s
-  pub counts : (first_fault s).number ≡ 0 → r.counts ≡ counts_of (said s)
+-- What surveying a text gives: what its lines make where it has no fault; or its first fault.
+pub record Counted (s : List ℕ) (n : Counts) : Type 0 where
+  pub clear : (first_fault s).number ≡ 0
+  pub counts : n ≡ counts_of (said s)
+
+pub record Faulty (s : List ℕ) (f : Fault) : Type 0 where
+  pub first : f ≡ first_fault s
+  pub there : f.number ≡ 0 → ⊥
+
+abbrev pub Surveyed : List ℕ → Result Counts Fault → Type 0
+Surveyed s (Ok n) = Counted s n
+Surveyed s (Err f) = Faulty s f

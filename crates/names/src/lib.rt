@@ -4,13 +4,13 @@
 ghost use Rattle.std.specs.Prelude.{◌≡◌, ◌<◌, length};
 ghost use Rattle.program.specs.Code.{name_of};
 ghost use Rattle.text.specs.Faults.{said};
-ghost use Rattle.reading.specs.Code.{declaring};
-ghost use Rattle.rows.specs.Rows.{row_at, plus, arranged};
-ghost use Rattle.names.specs.Code.{Surveyed, none_passed, Reached, OnePassed, AllJudged, Keyed, KeyOperand, Below, entered_by, unknown_variable_in, unknown_target, unknown_written, unknown_operand, unknown_cell, read_only_key, repeated_key, too_many_by, counted, fault_by};
+ghost use Rattle.rows.specs.Rows.{row_at, arranged};
+ghost use Rattle.names.specs.Code.{Surveyed, AllJudged, Keyed, KeyOperand, ReadKeyed, Below, first_as, earlier, entered_by, unknown_variable_in, unknown_target, unknown_written, unknown_operand, unknown_cell, read_only_key, repeated_by, too_many_by, counted, fault_by, number_of_fault, lowest_number};
+ghost use Rattle.names.specs.declared.TextFault.TheVariants.{Own};
 
 use program::{Cell, Operand, Variable};
-use reading::Reading;
-use rows::Row;
+use reading::{LineFault, Said};
+use rows::{Declaration, Kind, Row};
 use text::Fault;
 
 // How many cells, labels and variables some lines make.
@@ -21,64 +21,100 @@ pub struct Counts {
     pub variables: usize,
 }
 
-// The lines of a text that are passed: the lowest fault of the last of them, what they make, how many they are, and where the next one starts.
+// The faults of a line in its text: its own, and those that are seen here.
 #[derive(Clone, Copy)]
-struct Passed {
-    fault: u8,
-    counts: Counts,
-    lines: usize,
-    next: usize,
+enum TextFault {
+    Own(LineFault),
+    Repeated,
+    TooMany,
+    Undeclared,
+    ReadOnly,
 }
 
-// The first fault of a text, and what its lines make where it has none.
-#[derive(Clone, Copy)]
-pub struct Survey {
-    pub fault: Fault,
-    pub counts: Counts,
+impl From<LineFault> for TextFault {
+    ghost from_gives = { λ fault result. result ≡ Own fault };
+
+    fn from(fault: LineFault) -> TextFault {
+        TextFault::Own(fault)
+    }
 }
 
-// The faults that are seen here.
-const NO_FAULT: u8 = 0;
+impl TextFault {
+    fn number(self) -> u8
+        ensures { result ≡ number_of_fault self }
+    {
+        match self {
+            TextFault::Own(fault) => fault as u8,
+            TextFault::Repeated => 6,
+            TextFault::TooMany => 7,
+            TextFault::Undeclared => 8,
+            TextFault::ReadOnly => 9,
+        }
+    }
+}
 
-const REPEATED: u8 = 6;
-
-const TOO_MANY: u8 = 7;
-
-const UNDECLARED: u8 = 8;
-
-const READ_ONLY: u8 = 9;
+// The number of the lowest fault of a line, or 0.
+// Stays: 0 for none is the byte that `line_faults` writes, by `AllJudged` (specs/Code.antt).
+fn number_or_0(fault: Result<(), TextFault>) -> u8
+    ensures { result ≡ lowest_number fault }
+{
+    match fault {
+        Ok(()) => 0,
+        Err(fault) => fault.number(),
+    }
+}
 
 // The key where a cell has no name.
+// Stays: a cell has 0 where it has no name: `unknown_target` and `unknown_written` (specs/Code.antt) ask for it.
 const NO_NAME: u16 = 0;
 
-// One more where the test holds.
-fn more_if(test: bool, n: usize) -> usize
-    requires { n < 18446744073709551615 }
-    ensures { result ≡ plus test n }
+// Enters the name that a line declares, if it declares one: the line has this number, and lines with these counts are before it.
+fn enter_line(rows: &mut [Row], line: usize, counts: Counts, said: Said)
+    ensures { rows.new ≡ entered_by line counts.cells counts.variables said rows.old }
 {
-    if test {
-        return n + 1;
+    match said {
+        Said::Blank | Said::Acts(_) => {}
+        Said::Label(name) => {
+            let kind = Kind::Label;
+            let place = counts.cells;
+            rows::enter(rows, name, Some(Declaration { kind, line, place }));
+        }
+        Said::Declared(name, _) => {
+            let kind = Kind::Variable;
+            let place = counts.variables;
+            rows::enter(rows, name, Some(Declaration { kind, line, place }));
+        }
     }
-    n
 }
 
-// A line of this kind declares a name.
-fn is_declaring(kind: u8) -> bool
-    ensures { result ≡ declaring kind }
-{
-    (kind == Reading::LABEL) | (kind == Reading::DECLARED)
-}
+impl Counts {
+    // Of no line yet.
+    const NONE: Counts = Counts {
+        cells: 0,
+        labels: 0,
+        variables: 0,
+    };
 
-// Enters the name that a line of this kind declares, if it declares one: the line has this number, and so many cells and variables are before it.
-fn enter_line(rows: &mut [Row], line: usize, cells: usize, variables: usize, kind: u8, name: u16)
-    ensures { rows.new ≡ entered_by line cells variables kind name rows.old }
-{
-    if kind == Reading::LABEL {
-        rows::enter(rows, name, [rows::LABEL, line, cells]);
-        return;
-    }
-    if kind == Reading::DECLARED {
-        rows::enter(rows, name, [rows::VARIABLE, line, variables]);
+    // The counts with one line more.
+    fn counted(self, said: Said) -> Counts
+        requires { Below 18446744073709551615 self }
+        ensures { result ≡ counted self said }
+    {
+        match said {
+            Said::Blank => self,
+            Said::Label(_) => Counts {
+                labels: self.labels + 1,
+                ..self
+            },
+            Said::Declared(_, _) => Counts {
+                variables: self.variables + 1,
+                ..self
+            },
+            Said::Acts(_) => Counts {
+                cells: self.cells + 1,
+                ..self
+            },
+        }
     }
 }
 
@@ -86,21 +122,12 @@ fn enter_line(rows: &mut [Row], line: usize, cells: usize, variables: usize, kin
 pub fn arrange(s: &[u8]) -> [Row; rows::COUNT]
     ensures { result ≡ arranged (said s.now) }
 {
-    let mut rows = [rows::NO_ROW; rows::COUNT];
-    let mut line: usize = 1;
-    let mut cells: usize = 0;
-    let mut variables: usize = 0;
-    let mut at: usize = 0;
-    while at < s.len() {
-        let span = text::line_at(s, at);
-        let end = span.end;
-        let reading = reading::read_line(&s[at..end]);
-        let kind = reading.kind;
-        enter_line(&mut rows, line, cells, variables, kind, reading.name);
-        line += 1;
-        cells = more_if(kind == Reading::ACTS, cells);
-        variables = more_if(kind == Reading::DECLARED, variables);
-        at = span.next;
+    let mut rows = [None; rows::COUNT];
+    let mut counts = Counts::NONE;
+    for (k, line) in text::lines_of(s).enumerate() {
+        let said = reading::read_line(line).unwrap_or(Said::Blank);
+        enter_line(&mut rows, k + 1, counts, said);
+        counts = counts.counted(said);
     }
     rows
 }
@@ -113,12 +140,21 @@ pub fn declared_as(s: &[u8], key: u16) -> Row
     rows::look_up(&rows, key)
 }
 
+// The name of this row is first declared as a label, or as a variable.
+fn is_first(row: Row, wanted: Kind) -> bool
+    ensures { result ≡ first_as row wanted }
+{
+    match row {
+        Some(declared) => declared.kind == wanted,
+        None => false,
+    }
+}
+
 // No variable of the paper's, and not first declared as a variable.
 fn is_unknown_variable(rows: &[Row], key: u16) -> bool
     ensures { result ≡ unknown_variable_in rows.now (name_of key) }
 {
-    let row = rows::look_up(rows, key);
-    if row[rows::KIND] == rows::VARIABLE {
+    if is_first(rows::look_up(rows, key), Kind::Variable) {
         return false;
     }
     Variable::number_of(key) == 0
@@ -131,8 +167,7 @@ fn is_unknown_target(rows: &[Row], target: u16) -> bool
     if (target == NO_NAME) | (target == Cell::NO_TARGET) {
         return false;
     }
-    let row = rows::look_up(rows, target);
-    row[rows::KIND] != rows::LABEL
+    !is_first(rows::look_up(rows, target), Kind::Label)
 }
 
 fn is_unknown_written(rows: &[Row], key: u16) -> bool
@@ -156,6 +191,7 @@ fn is_unknown_operand(rows: &[Row], operand: Operand) -> bool
 }
 
 // A cell has a name with no declaration, or whose first is of another kind.
+// Stays: `Keyed` is asked for here, since a cell type of its own for keys would say program's `Cell` and `Operand` twice.
 fn is_undeclared(rows: &[Row], cell: Cell) -> bool
     requires { Keyed cell }
     ensures { result ≡ unknown_cell rows.now cell }
@@ -176,127 +212,85 @@ fn writes_read_only(key: u16) -> bool
     (key != NO_NAME) & Variable(number).is_read_only()
 }
 
-// The line with this number and of this kind declares a name that a line before it declares.
-fn is_repeated(rows: &[Row], line: usize, kind: u8, name: u16) -> bool
-    ensures { result ≡ repeated_key rows.now line kind name }
+// The name of this row is first declared by a line before this one.
+fn is_earlier(row: Row, line: usize) -> bool
+    ensures { result ≡ earlier row line }
 {
-    let row = rows::look_up(rows, name);
-    is_declaring(kind) & (row[rows::LINE] < line)
+    match row {
+        Some(declared) => declared.line < line,
+        None => false,
+    }
 }
 
-// A line of this kind makes one thing too many, behind lines with these counts.
-fn is_too_many(counts: Counts, kind: u8) -> bool
-    ensures { result ≡ too_many_by counts kind }
+// The line with this number declares a name that a line before it declares.
+fn is_repeated(rows: &[Row], line: usize, said: Said) -> bool
+    ensures { result ≡ repeated_by rows.now line said }
 {
-    ((kind == Reading::ACTS) & (Cell::MOST as usize <= counts.cells))
-        | (((kind == Reading::LABEL) & (Cell::MOST_LABELS as usize <= counts.labels))
-            | ((kind == Reading::DECLARED) & (Variable::MOST_USERS as usize <= counts.variables)))
+    match said {
+        Said::Blank | Said::Acts(_) => false,
+        Said::Label(name) | Said::Declared(name, _) => is_earlier(rows::look_up(rows, name), line),
+    }
 }
 
-// The counts with one line of this kind more.
-fn counted(counts: Counts, kind: u8) -> Counts
-    requires { Below 18446744073709551615 counts }
-    ensures { result ≡ counted counts kind }
+// A line makes one thing too many, behind lines with these counts.
+fn is_too_many(counts: Counts, said: Said) -> bool
+    ensures { result ≡ too_many_by counts said }
 {
-    let cells = more_if(kind == Reading::ACTS, counts.cells);
-    let labels = more_if(kind == Reading::LABEL, counts.labels);
-    let variables = more_if(kind == Reading::DECLARED, counts.variables);
-    Counts {
-        cells,
-        labels,
-        variables,
+    match said {
+        Said::Blank => false,
+        Said::Label(_) => Cell::MOST_LABELS as usize <= counts.labels,
+        Said::Declared(_, _) => Variable::MOST_USERS as usize <= counts.variables,
+        Said::Acts(_) => Cell::MOST as usize <= counts.cells,
     }
 }
 
 // The lowest fault of a line with this number that was read so, behind lines with these counts.
-fn line_fault(rows: &[Row], line: usize, counts: Counts, reading: Reading) -> u8
-    requires { Keyed reading.cell }
-    ensures { result ≡ fault_by rows.now line counts reading }
+fn line_fault(
+    rows: &[Row],
+    line: usize,
+    counts: Counts,
+    reading: Result<Said, LineFault>,
+) -> Result<(), TextFault>
+    requires { ReadKeyed reading }
+    ensures { lowest_number result ≡ fault_by rows.now line counts reading }
 {
-    let kind = reading.kind;
-    let cell = reading.cell;
-    if reading.fault != NO_FAULT {
-        return reading.fault;
+    let said = reading?;
+    if is_repeated(rows, line, said) {
+        return Err(TextFault::Repeated);
     }
-    if is_repeated(rows, line, kind, reading.name) {
-        return REPEATED;
+    if is_too_many(counts, said) {
+        return Err(TextFault::TooMany);
     }
-    if is_too_many(counts, kind) {
-        return TOO_MANY;
-    }
+    let Said::Acts(cell) = said else {
+        return Ok(());
+    };
     if is_undeclared(rows, cell) {
-        return UNDECLARED;
+        return Err(TextFault::Undeclared);
     }
     if writes_read_only(cell.written) {
-        return READ_ONLY;
+        return Err(TextFault::ReadOnly);
     }
-    NO_FAULT
+    Ok(())
 }
 
-impl Passed {
-    // No line yet.
-    fn none() -> Passed
-        ensures { result ≡ none_passed }
-    {
-        let counts = Counts {
-            cells: 0,
-            labels: 0,
-            variables: 0,
-        };
-        Passed {
-            fault: NO_FAULT,
-            counts,
-            lines: 0,
-            next: 0,
-        }
-    }
-}
-
-// One line more is passed.
-fn pass_line(s: &[u8], rows: &[Row], passed: Passed) -> Passed
-    requires reached { (passed.next < length s.now) × Reached s.now passed }
-    requires arranged { rows.now ≡ arranged (said s.now) }
-    ensures { OnePassed s.now passed result }
-{
-    let at = passed.next;
-    let span = text::line_at(s, at);
-    let end = span.end;
-    let reading = reading::read_line(&s[at..end]);
-    let lines = passed.lines + 1;
-    let fault = line_fault(rows, lines, passed.counts, reading);
-    let counts = counted(passed.counts, reading.kind);
-    Passed {
-        fault,
-        counts,
-        lines,
-        next: span.next,
-    }
-}
-
-// The first fault of a text whose names are in these rows, and its counts where it has none: one pass over its lines.
-pub fn survey_lines(s: &[u8], rows: &[Row]) -> Survey
+// The first fault of a text whose names are in these rows, or its counts: one pass over its lines.
+pub fn survey_lines(s: &[u8], rows: &[Row]) -> Result<Counts, Fault>
     requires { rows.now ≡ arranged (said s.now) }
     ensures { Surveyed s.now result }
 {
-    let mut passed = Passed::none();
-    while passed.next < s.len() {
-        passed = pass_line(s, rows, passed);
-        let number = passed.fault;
-        if number != NO_FAULT {
-            let fault = Fault {
-                number,
-                line: passed.lines,
-            };
-            let counts = passed.counts;
-            return Survey { fault, counts };
+    let mut counts = Counts::NONE;
+    for (k, line) in text::lines_of(s).enumerate() {
+        let reading = reading::read_line(line);
+        let number = k + 1;
+        if let Err(fault) = line_fault(rows, number, counts, reading) {
+            return Err(Fault {
+                number: fault.number(),
+                line: number,
+            });
         }
+        counts = counts.counted(reading.unwrap_or(Said::Blank));
     }
-    let fault = Fault {
-        number: NO_FAULT,
-        line: 0,
-    };
-    let counts = passed.counts;
-    Survey { fault, counts }
+    Ok(counts)
 }
 
 // The lowest fault of each line of a text, 0 for none: a byte a line, to the front of the buffer as far as there is room. How many lines there are is handed back.
@@ -304,11 +298,15 @@ pub fn line_faults(s: &[u8], faults: &mut [u8]) -> usize
     ensures { AllJudged s.now result faults.old faults.new }
 {
     let rows = arrange(s);
-    let mut passed = Passed::none();
-    while passed.next < s.len() {
-        let line = passed.lines;
-        passed = pass_line(s, &rows, passed);
-        numbers::write(faults, line, 1, passed.fault as u64);
+    let mut counts = Counts::NONE;
+    // Stays: how many lines there are is the answer too, which `enumerate` does not tell behind the loop.
+    let mut lines: usize = 0;
+    for line in text::lines_of(s) {
+        let reading = reading::read_line(line);
+        let fault = line_fault(&rows, lines + 1, counts, reading);
+        numbers::write(faults, lines, 1, number_or_0(fault) as u64);
+        counts = counts.counted(reading.unwrap_or(Said::Blank));
+        lines += 1;
     }
-    passed.lines
+    lines
 }

@@ -1,6 +1,8 @@
 // Bytes taken apart, into lines of a text and words of a line; and bytes put together.
 #![tactic(auto)]
 
+ghost use Rattle.std.specs.Prelude.{◌≡◌, ◌≤◌, drop};
+
 pub mod writing;
 
 // How many bytes a line and a page that are put together have room for.
@@ -8,109 +10,76 @@ pub const LINE: usize = 2048;
 
 pub const PAGE: usize = 65536;
 
+// Bytes that are put together, as many as there is room for.
+// Stays: no call can fail, so no heap: the bytes stand in an array, and the first of them are in use.
 #[derive(Clone, Copy)]
-pub struct Line {
-    pub bytes: Room,
-    pub held: usize,
+pub struct Text<const ROOM: usize> {
+    bytes: [u8; ROOM],
+    held: usize,
+    ghost fits: { held ≤ ROOM },
 }
 
-pub type Room = [u8; LINE];
+pub type Line = Text<LINE>;
 
-pub type Page = [u8; PAGE];
+pub type Page = Text<PAGE>;
 
 // The first so many bytes; none where there are fewer.
 pub fn front<'a>(bytes: &'a [u8], count: usize) -> &'a [u8] {
-    if bytes.len() < count {
-        return &bytes[..0];
-    }
-    &bytes[..count]
+    bytes.get(..count).unwrap_or(&[])
 }
 
 // The same, to be written.
 pub fn lent<'a>(bytes: &'a mut [u8], count: usize) -> &'a mut [u8] {
-    if bytes.len() < count {
-        return &mut bytes[..0];
-    }
-    &mut bytes[..count]
+    bytes.get_mut(..count).unwrap_or(&mut [])
 }
 
 // The bytes behind the first so many; none where there are fewer.
-pub fn back<'a>(bytes: &'a [u8], count: usize) -> &'a [u8] {
-    if bytes.len() < count {
-        return &bytes[..0];
-    }
-    &bytes[count..]
+pub fn back<'a>(bytes: &'a [u8], count: usize) -> &'a [u8]
+    ensures { result.now ≡ drop count bytes.now }
+{
+    bytes.get(count..).unwrap_or(&[])
 }
 
 // The bytes from one place to before another; none where these are no places in order.
 pub fn between<'a>(bytes: &'a [u8], start: usize, end: usize) -> &'a [u8] {
-    back(front(bytes, end), start)
+    bytes.get(start..end).unwrap_or(&[])
 }
 
 // The byte at a place; 0 past the end.
 pub fn byte(bytes: &[u8], at: usize) -> u8 {
-    if at < bytes.len() {
-        return bytes[at];
-    }
-    0
-}
-
-pub fn same(a: &[u8], b: &[u8]) -> bool {
-    if a.len() != b.len() {
-        return false;
-    }
-    let mut i: usize = 0;
-    while i < a.len() {
-        if b.len() <= i {
-            return false;
-        }
-        if a[i] != b[i] {
-            return false;
-        }
-        i += 1;
-    }
-    true
+    bytes.get(at).copied().unwrap_or(0)
 }
 
 // The line of a text with this number, from 1, without its ending; empty where there is none.
+// Stays: who asks (telling's `trace` and `refusals`) takes a line that is not there as an empty one.
 pub fn line_of<'a>(text: &'a [u8], number: usize) -> &'a [u8] {
-    let mut at: usize = 0;
-    let mut k: usize = 1;
-    while at < text.len() {
-        let span = text::line_at(text, at);
-        if k == number {
-            return between(text, at, span.end);
-        }
-        k += 1;
-        at = span.next;
-    }
-    &text[..0]
+    let Some(before) = number.checked_sub(1) else {
+        return &[];
+    };
+    text::lines_of(text).nth(before).unwrap_or(&[])
 }
 
 pub fn is_blank(b: u8) -> bool {
     (b == b' ') | (b == b'\t')
 }
 
-// The place behind blanks, or else behind other bytes, from a place on.
-fn past(line: &[u8], at: usize, blanks: bool) -> usize {
-    let mut i = at;
-    while i < line.len() {
-        if is_blank(line[i]) != blanks {
-            return i;
-        }
-        i += 1;
-    }
-    i
+// The place of the first such byte, from a place on; the line's end where there is none.
+fn place_of<F: Fn(u8) -> bool>(line: &[u8], at: usize, is_sought: F) -> usize
+    requires { (f : _) (x : _) → F.pre f x }
+{
+    let rest = back(line, at);
+    let behind = rest.iter().position(|b| is_sought(*b));
+    at + behind.unwrap_or(rest.len())
 }
 
 // The place of the first byte that is no blank, from a place on.
 pub fn past_blanks(line: &[u8], at: usize) -> usize {
-    past(line, at, true)
+    place_of(line, at, |b| !is_blank(b))
 }
 
 // The place of the first blank, from a place on.
 fn past_word(line: &[u8], at: usize) -> usize {
-    past(line, at, false)
+    place_of(line, at, is_blank)
 }
 
 // A line from its first word on.
@@ -146,16 +115,8 @@ pub fn word_at<'a>(line: &'a [u8], at: usize) -> &'a [u8] {
 
 // How many bytes a line has up to its last that is no blank.
 fn used(line: &[u8]) -> usize {
-    let mut count: usize = 0;
-    let mut i: usize = 0;
-    while i < line.len() {
-        let b = line[i];
-        i += 1;
-        if !is_blank(b) {
-            count = i;
-        }
-    }
-    count
+    let last = line.iter().rposition(|b| !is_blank(*b));
+    last.map_or(0, |place| place + 1)
 }
 
 // A line without its comment.

@@ -1,116 +1,136 @@
 // Bytes put together piece by piece: a line, which is passed along by value, and a page, which holds many lines. What there is no room for is
 // left out.
-//
-// A function that adds to a page takes how many bytes the page holds, `held`, and answers how many it holds then.
+ghost use Rattle.std.specs.Prelude.{◌≡◌, ◌≤◌, ◌==◌, ◌∷◌, [], ⊤, take, length};
+ghost use Rattle.parts.specs.Added.{held_by, added};
 
-use crate::{LINE, Line, PAGE, Page, Room};
-
-// No number has more digits.
-const MOST_DIGITS: usize = 20;
-
-// How many numbers 32 bits can write, and how many of them are not negative.
-const WRAP: u64 = 4294967296;
-
-const HALF: u64 = 2147483648;
+use crate::Text;
+use std::fmt::{self, Write};
 
 // How many digits a number has.
 pub fn width(n: u64) -> usize {
-    let mut rest = n;
-    for count in 0..MOST_DIGITS {
-        if rest < 10 {
-            return count + 1;
-        }
-        rest /= 10;
-    }
-    MOST_DIGITS
+    n.checked_ilog10().map_or(1, |tens| tens as usize + 1)
 }
 
-// The digit of a number with so many behind it.
-fn digit_before(n: u64, behind: usize) -> u8 {
-    let mut rest = n;
-    for _ in 0..behind {
-        rest /= 10;
-    }
-    b'0' + ((rest % 10) as u8)
-}
-
-// The lower four bits of a byte as a hexadecimal digit.
-fn hex_digit(b: u8) -> u8 {
-    let n = b % 16;
-    if n < 10 { b'0' + n } else { b'a' + (n - 10) }
-}
-
-impl Line {
-    pub fn empty() -> Line {
-        Line {
-            bytes: [0; LINE],
+impl<const ROOM: usize> Text<ROOM> {
+    pub fn empty() -> Self
+        ensures { held_by result ≡ [] }
+    {
+        Text {
+            bytes: [0; ROOM],
             held: 0,
         }
     }
 
-    pub fn byte(mut self, b: u8) -> Line {
-        let held = self.held;
-        if held < LINE {
-            self.bytes[held] = b;
-            self.held = held + 1;
+    // What it holds.
+    pub fn held(&self) -> &[u8]
+        ensures { result.now ≡ held_by self.now }
+    {
+        &self.bytes[..self.held]
+    }
+
+    // How many bytes it holds.
+    pub fn len(&self) -> usize
+        ensures { result ≡ length (held_by self.now) }
+    {
+        self.held().len()
+    }
+
+    pub fn is_empty(&self) -> bool
+        ensures { result ≡ (length (held_by self.now) == 0) }
+    {
+        self.held == 0
+    }
+
+    pub fn is_full(&self) -> bool
+        ensures { result ≡ (length (held_by self.now) == ROOM) }
+    {
+        self.held == ROOM
+    }
+
+    // Leaves so many bytes, where there are more.
+    pub fn cut(&mut self, count: usize)
+        ensures { held_by self.new ≡ take count (held_by self.old) }
+    {
+        self.held = self.held.min(count);
+    }
+
+    pub fn clear(&mut self)
+        ensures { held_by self.new ≡ [] }
+    {
+        self.held = 0;
+    }
+
+    // Adds a byte behind.
+    pub fn push(&mut self, b: u8)
+        ensures { held_by self.new ≡ added ROOM (held_by self.old) (b ∷ []) }
+    {
+        let has_room = self.held < ROOM;
+        if has_room {
+            self.bytes[self.held] = b;
+            self.held += 1;
         }
+    }
+
+    // Adds bytes behind.
+    pub fn add(&mut self, values: &[u8])
+        ensures { held_by self.new ≡ added ROOM (held_by self.old) values.now }
+    {
+        for b in values {
+            self.push(*b);
+        }
+    }
+
+    pub fn byte(mut self, b: u8) -> Self
+        ensures { held_by result ≡ added ROOM (held_by self.entry) (b ∷ []) }
+    {
+        self.push(b);
         self
     }
 
-    pub fn bytes(mut self, values: &[u8]) -> Line {
-        for i in 0..values.len() {
-            self = self.byte(values[i]);
-        }
+    pub fn bytes(mut self, values: &[u8]) -> Self
+        ensures { held_by result ≡ added ROOM (held_by self.entry) values.now }
+    {
+        self.add(values);
         self
     }
 
     // The same byte, so many times.
-    pub fn repeated(mut self, b: u8, count: usize) -> Line {
+    pub fn repeated(mut self, b: u8, count: usize) -> Self {
         for _ in 0..count {
             self = self.byte(b);
         }
         self
     }
 
-    pub fn spaces(self, count: usize) -> Line {
+    pub fn spaces(self, count: usize) -> Self {
         self.repeated(b' ', count)
     }
 
-    pub fn number(mut self, n: u64) -> Line {
-        let mut left = width(n);
-        while 0 < left {
-            left -= 1;
-            self = self.byte(digit_before(n, left));
-        }
+    pub fn number(mut self, n: u64) -> Self {
+        let _ = write!(self, "{n}");
         self
     }
 
     // A number, with spaces before it up to a width.
-    pub fn number_to(mut self, n: u64, columns: usize) -> Line {
-        let used = width(n);
-        if used < columns {
-            self = self.spaces(columns - used);
-        }
-        self.number(n)
+    pub fn number_to(mut self, n: u64, columns: usize) -> Self {
+        let _ = write!(self, "{n:columns$}");
+        self
     }
 
-    pub fn signed(mut self, z: i32) -> Line {
-        let bits = numbers::digits(z) as u64;
-        if bits < HALF {
-            return self.number(bits);
-        }
-        self = self.byte(b'-');
-        self.number(WRAP - bits)
+    pub fn signed(mut self, z: i32) -> Self {
+        let _ = write!(self, "{z}");
+        self
     }
 
     // A byte in two hexadecimal digits.
-    pub fn hex(mut self, b: u8) -> Line {
-        self = self.byte(hex_digit(b / 16));
-        self.byte(hex_digit(b))
+    pub fn hex(mut self, b: u8) -> Self {
+        let _ = write!(self, "{b:02x}");
+        self
     }
 
     // The lower bytes of a number, the lowest first.
-    pub fn field(mut self, n: u64, width: usize) -> Line {
+    // Stays: a field of more than eight bytes has zeros behind, for whoever asks for one, and `to_le_bytes` has eight bytes: both would be joined and cut.
+    pub fn field(mut self, n: u64, width: usize) -> Self {
         let mut rest = n;
         for _ in 0..width {
             self = self.byte((rest % 256) as u8);
@@ -119,45 +139,26 @@ impl Line {
         self
     }
 
-    pub fn end(self) -> Line {
+    pub fn end(self) -> Self
+        ensures { held_by result ≡ added ROOM (held_by self.entry) (10 ∷ []) }
+    {
         self.byte(b'\n')
     }
 
-    // Adds the line to a page.
-    pub fn onto(self, page: &mut Page, held: usize) -> usize {
-        let bytes = self.bytes;
-        put(page, held, held_in(&bytes, self.held))
+    // Adds what it holds to another.
+    pub fn onto<const MORE: usize>(&self, page: &mut Text<MORE>)
+        ensures { held_by page.new ≡ added MORE (held_by page.old) (held_by self.now) }
+    {
+        page.add(self.held());
     }
 }
 
-// What the bytes of a line hold.
-pub fn held_in<'a>(bytes: &'a Room, held: usize) -> &'a [u8] {
-    crate::front(bytes, held)
-}
+// What is printed is added behind, and never fails.
+impl<const ROOM: usize> Write for Text<ROOM> {
+    ghost write_str_gives = { λ old printed new. held_by new ≡ added ROOM (held_by old) printed };
 
-pub fn page() -> Page {
-    [0; PAGE]
-}
-
-// What a page holds.
-pub fn held_on<'a>(page: &'a Page, held: usize) -> &'a [u8] {
-    crate::front(page, held)
-}
-
-// Adds a byte to a page.
-pub fn put_byte(page: &mut Page, held: usize, b: u8) -> usize {
-    if held < PAGE {
-        page[held] = b;
-        return held + 1;
+    fn write_str(&mut self, s: &str) -> fmt::Result {
+        self.add(s.as_bytes());
+        Ok(())
     }
-    held
-}
-
-// Adds bytes to a page.
-pub fn put(page: &mut Page, held: usize, values: &[u8]) -> usize {
-    let mut at = held;
-    for i in 0..values.len() {
-        at = put_byte(page, at, values[i]);
-    }
-    at
 }

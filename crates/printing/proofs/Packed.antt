@@ -9,8 +9,9 @@ use native.Mathlib.Omega.{arith}
 use borrow.Author.Tests.{eqb-true, leb-true, eq-eqb, ne_eqb, lt-ltb, le-ltb, le-leb}
 use lib.Arith.{digits_div, digits_mod}
 use lib.Dec.{eqb, ltb, leb, lit<}
+use lib.IntN.{ℤ, pos, negsuc, nat_abs}
+use lib.Signed.{le_z}
 use Rattle.numbers.specs.Bytes.{ascii, number}
-use Rattle.numbers.specs.Bits.{signed32}
 use Rattle.numbers.specs.Tests.{first_below, Each}
 use Rattle.numbers.proofs.Tests.{first_none, first_here, first_before, first_passes}
 use Rattle.numbers.proofs.Truth.{is_true, true_is, both, if_below, of_both}
@@ -263,18 +264,18 @@ decimal_two n {first} {second} h l e f =
     ∙ sym (printed_split (width q) n)
     ∙ ap (λ (w : ℕ). printed w n) (sym (width_split n h l))
 
-pub plain_positive : (bits : ℕ) → bits < 2147483648 → printed (width bits) bits ≡ plain (signed32 bits)
-unfolding signed32 plain
-plain_positive bits h = rw (lt-ltb bits 2147483648 h) refl
+-- The literal of a value, by its size: as it is, or behind a minus.
+pub plain_positive : (z : ℤ) {n : ℕ} → le_z (pos 0) z ≡ true → n ≡ nat_abs z → printed (width n) n ≡ plain z
+unfolding plain
+plain_positive (pos m) h e = ap (λ (k : ℕ). printed (width k) k) e
+plain_positive (negsuc m) h e = absurd (true≢false (sym h))
 
-pub plain_negative : (bits first second : ℕ) → 2147483648 ≤ bits → bits < 4294967296
-    → packed first ++ packed second ≡ printed (width (4294967295 - bits + 1)) (4294967295 - bits + 1)
-    → packed (45 + 256 * first) ++ packed second ≡ plain (signed32 bits)
-unfolding signed32 plain ascii
-plain_negative bits first second h l e =
+pub plain_negative : (z : ℤ) (first second : ℕ) {n : ℕ} → le_z (pos 0) z ≡ false → n ≡ nat_abs z → packed first ++ packed second ≡ printed (width n) n
+    → packed (45 + 256 * first) ++ packed second ≡ plain z
+unfolding plain ascii
+plain_negative (pos m) first second h e g = absurd (true≢false (sym (le-leb 0 m (omega arith)) ∙ h))
+plain_negative (negsuc m) first second h e g =
     let a : 45 + 256 * first ≡ first * 256 + 45 = omega arith in
-    let m : 4294967295 - bits + 1 ≡ suc (4294967296 - suc bits) = omega arith in
     ap (λ (n : ℕ). packed n ++ packed second) a
     ∙ ap (λ (xs : List ℕ). xs ++ packed second) (packed_byte 45 first (lit< tt) (lit< tt))
-    ∙ ap (λ (xs : List ℕ). 45 ∷ xs) (e ∙ ap (λ (n : ℕ). printed (width n) n) m)
-    ∙ rw (le-ltb bits 2147483648 h) refl
+    ∙ ap (λ (xs : List ℕ). 45 ∷ xs) (g ∙ ap (λ (k : ℕ). printed (width k) k) e)

@@ -3,11 +3,10 @@
 use mathlib.Core.Path.{◌≡◌, refl, sym, ap, ◌∙◌}
 use mathlib.Core.List.{List, [], ◌∷◌, ◌++◌, flat_map}
 use Prim.Native.Nat.{ℕ, suc, ◌+◌, ◌-◌, ◌/◌, ◌%◌, ◌≤◌, ◌<◌}
-use native.Mathlib.Nat.{le_trans, min-le_left, le-min}
 use native.Mathlib.Omega.{arith}
 use borrow.Author.Tests.{lt-ltb, le-ltb}
-use lib.ListN.{length, get_or, set, take, drop, drop_of_length-le, length-set, length-take}
-use lib.Seq.{sets, set_out, length-sets, drop-cons, get_or-take}
+use lib.ListN.{length, get_or, set, drop, drop_of_length-le, length-set}
+use lib.Seq.{sets, set_out, length-sets, drop-cons}
 use Rattle.numbers.specs.Tests.{listed}
 use Rattle.numbers.proofs.Laws.{sets_out}
 use Rattle.numbers.proofs.Truth.{if_below}
@@ -127,15 +126,6 @@ put_byte : {page : List ℕ} {at b : ℕ} → at < length page → Put (b ∷ []
 unfolding behind
 put_byte {page} {at} {b} h = record { place = sym (behind_more (length page) at b [] h ∙ omega arith); page = refl }
 
--- How much is left of words, more than of what stands behind the first of them.
-pub left_of : List ℕ → ℕ
-left_of [] = 0
-left_of (x ∷ xs) = suc (x + left_of xs)
-
-pub left_less : (words : List ℕ) (k rest : ℕ) → k < length words → left_of (drop (k + 1) words) + get_or words k 0 < left_of (drop k words) + rest
-unfolding left_of
-left_less words k rest h = let one : k + 1 ≡ suc k = omega arith in rw (one, drop-cons words k 0 h) (omega arith)
-
 -- Words as they are put, with what is left of one that was begun: the first is begun; a byte; one is done, and the next is begun or there is none.
 pub record Wording (words old : List ℕ) (start rest k : ℕ) (page : List ℕ) (at : ℕ) : Type 0 where
   pub left : Putting (flat_map packed words) old start (packed rest ++ flat_map packed (drop k words)) page at
@@ -158,6 +148,9 @@ module _ {words old page : List ℕ} {start rest k at : ℕ} (p : Wording words 
     left = let one : k + 1 ≡ suc k = omega arith in putting_same (word_done e ∙ ap (flat_map packed) (drop-cons words k 0 h) ∙ rw one refl) p.left;
   }
 
+  pub word_over : rest ≡ 0 → Wording words old start 0 k page at
+  word_over e = record { left = putting_same (ap (λ (n : ℕ). packed n ++ flat_map packed (drop k words)) e) p.left }
+
   pub words_put : rest ≡ 0 → length words ≤ k → Put (flat_map packed words) old start at page
   unfolding flat_map
   words_put e h = put_all (word_done e ∙ ap (flat_map packed) (drop_of_length-le words h)) p.left
@@ -177,26 +170,3 @@ module _ (f : ℕ → List ℕ) (k n : ℕ) where
   pub pieces_over : n ≤ k → flat_map f (listed k (n - k) (λ i. i)) ≡ []
   unfolding flat_map listed
   pieces_over h = let a : n - k ≡ 0 = omega arith in rw a refl
-
--- The front of a page as it is copied to that of a buffer, byte by byte.
-pub record Copying (page : List ℕ) (held : ℕ) (old new : List ℕ) (i : ℕ) : Type 0 where
-  pub size : length new ≡ length old
-  pub whole : sets new i (drop i (take held page)) ≡ sets old 0 (take held page)
-
-pub copying : (page : List ℕ) (held : ℕ) (old : List ℕ) → Copying page held old old 0
-copying page held old = record { size = refl; whole = refl }
-
-module _ {page old new : List ℕ} {held i : ℕ} where
-  pub copied : Copying page held old new i → held ≤ i → new ≡ sets old 0 (take held page)
-  copied p h =
-      sym (ap (sets new i) (drop_of_length-le (take held page) (le_trans (rw (length-take held page) (min-le_left held (length page))) h))) ∙ p.whole
-
-  pub copying_more : Copying page held old new i → i < held → i < length page → Copying page held old (set new i (get_or page i 0)) (i + 1)
-  copying_more p h l =
-      let one : i + 1 ≡ suc i = omega arith in
-      let e : drop i (take held page) ≡ get_or page i 0 ∷ drop (suc i) (take held page) =
-      drop-cons (take held page) i 0 (rw (length-take held page) (le-min h l)) ∙ ap (λ (b : ℕ). b ∷ drop (suc i) (take held page)) (get_or-take held page i 0 h) in
-      record {
-        size = length-set new i (get_or page i 0) ∙ p.size;
-        whole = rw one (sym (ap (sets new i) e) ∙ p.whole);
-      }

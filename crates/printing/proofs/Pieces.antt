@@ -44,12 +44,11 @@ variable_front_lem : packed 2113878 ≡ packed (key (get_or mnemonics 1 [])) ++ 
 unfolding number key mnemonics ascii
 variable_front_lem = packed_spaced 86 65 (lit< tt, lit< tt) (lit< tt, lit< tt)
 
-pub label_words : (name : ℕ) → flat_map packed (2114124 ∷ name ∷ 10 ∷ 0 ∷ 0 ∷ 0 ∷ []) ≡ phrase_text (key (get_or mnemonics 0 [])) true name 10
+pub label_words : (name : ℕ) → flat_map packed (2114124 ∷ name ∷ 10 ∷ []) ≡ phrase_text (key (get_or mnemonics 0 [])) true name 10
 unfolding phrase_text if_so flat_map
 label_words name =
     let m = packed (key (get_or mnemonics 0 [])) in
-    ap (λ (xs : List ℕ). packed 2114124 ++ (packed name ++ (packed 10 ++ (xs ++ (xs ++ (xs ++ [])))))) packed_none
-    ∙ ap (λ (xs : List ℕ). packed 2114124 ++ (packed name ++ xs)) (append-nil (packed 10))
+    ap (λ (xs : List ℕ). packed 2114124 ++ (packed name ++ xs)) (append-nil (packed 10))
     ∙ ap (λ (xs : List ℕ). xs ++ (packed name ++ packed 10)) label_front_lem
     ∙ append_assoc m (32 ∷ []) (packed name ++ packed 10)
 
@@ -87,11 +86,10 @@ opened operation name more =
 
 pub opening_words : (operation name space : ℕ) (more : Bool) {mnemonic end : ℕ} → mnemonic ≡ mnemonic_key operation
     → packed space ≡ if_so (ltb 2 operation && (more || not (eqb name 0))) (32 ∷ []) → end ≡ end_of operation more
-    → flat_map packed (mnemonic ∷ space ∷ name ∷ end ∷ 0 ∷ 0 ∷ []) ≡ opening operation name more
+    → flat_map packed (mnemonic ∷ space ∷ name ∷ end ∷ []) ≡ opening operation name more
 unfolding flat_map
 opening_words operation name space more {mnemonic} {end} m s e =
-    ap (λ (xs : List ℕ). packed mnemonic ++ (packed space ++ (packed name ++ (packed end ++ (xs ++ (xs ++ [])))))) packed_none
-    ∙ ap (λ (xs : List ℕ). packed mnemonic ++ (packed space ++ (packed name ++ xs))) (append-nil (packed end))
+    ap (λ (xs : List ℕ). packed mnemonic ++ (packed space ++ (packed name ++ xs))) (append-nil (packed end))
     ∙ ap (λ (n : ℕ). packed n ++ (packed space ++ (packed name ++ packed end))) m
     ∙ ap (λ (xs : List ℕ). packed (mnemonic_key operation) ++ (xs ++ (packed name ++ packed end))) s
     ∙ ap (λ (n : ℕ). packed (mnemonic_key operation) ++ (if_so (ltb 2 operation && (more || not (eqb name 0))) (32 ∷ []) ++ (packed name ++ packed n))) e

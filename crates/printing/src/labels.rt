@@ -4,7 +4,6 @@ ghost use mathlib.Core.List.{flat_map};
 ghost use Rattle.printing.specs.Code.{packed, firsts_of, label_text, label_next};
 
 use crate::words;
-use crate::words::Words;
 
 // `LB` and a space.
 const LB: u64 = 2114124;
@@ -13,6 +12,7 @@ const LB: u64 = 2114124;
 pub const TARGETS: usize = 257;
 
 // The key of the first label of each target; 0 where there is none.
+// Stays: 0 for none is what `firsts_of` and `target_key` say, and the word of no bytes, which is written as it is.
 pub type Firsts = [u16; TARGETS];
 
 // From the last record to the first, so that of several with one target the first stays.
@@ -21,9 +21,7 @@ pub fn firsts(image: &[u8]) -> Firsts
 {
     let cells = image::cell_count(image);
     let mut firsts = [0u16; TARGETS];
-    let mut k = image::label_count(image);
-    while 0 < k {
-        k -= 1;
+    for k in (0..image::label_count(image)).rev() {
         let target = image::target_at(image, cells, k) as usize;
         if target < TARGETS {
             firsts[target] = numbers::read2(image, image::label_place(cells, k));
@@ -44,9 +42,9 @@ pub fn is_next(image: &[u8], label: u16, cell: u16) -> bool
 }
 
 // The line of a label.
-pub fn line(image: &[u8], label: u16) -> Words
+pub fn line(image: &[u8], label: u16) -> [u64; 3]
     ensures { flat_map packed result ≡ label_text image.now label }
 {
     let place = image::label_place(image::cell_count(image), label);
-    [LB, numbers::read2(image, place) as u64, words::END, 0, 0, 0]
+    [LB, numbers::read2(image, place) as u64, words::END]
 }

@@ -1,7 +1,7 @@
 // The listing of an image, written: it is put together on a page first, so that nothing is written where there is no room.
 #![tactic(auto)]
 
-ghost use Rattle.std.specs.Prelude.{◌≡◌, ◌≤◌, length, take};
+ghost use Rattle.std.specs.Prelude.{◌≡◌, ◌≤◌, length};
 ghost use mathlib.Core.List.{flat_map};
 ghost use Rattle.program.specs.Code.{key};
 ghost use Rattle.image.specs.Layout.{variable_count, variable_place};
@@ -13,9 +13,9 @@ mod statements;
 mod words;
 
 use program::Variable;
-use words::Words;
 
 // What does not fit into one word.
+// Stays: 0 is the word of no bytes, of which `packed` gives none, so that nothing is written for it and no case is asked.
 #[derive(Clone, Copy)]
 struct Two {
     first: u64,
@@ -49,7 +49,7 @@ pub fn variable_key(image: &[u8], number: u8) -> u16
 }
 
 // The line of a variable record.
-fn variable_line(image: &[u8], number: u16) -> Words
+fn variable_line(image: &[u8], number: u16) -> [u64; 6]
     ensures { flat_map packed result ≡ record_text image.now number }
 {
     let place = variable_place(image, number);
@@ -71,7 +71,7 @@ fn put_variables(image: &[u8], page: &mut [u8]) -> usize
 {
     let mut at: usize = 0;
     for k in 0..image::variable_count(image) {
-        at = words::put(page, at, variable_line(image, k));
+        at = words::put(page, at, &variable_line(image, k));
     }
     at
 }
@@ -86,31 +86,27 @@ fn put_lines(image: &[u8], firsts: &[u16], page: &mut [u8]) -> usize
     let mut at = put_variables(image, page);
     let mut label: u16 = 0;
     let mut cell: u16 = 0;
+    // Stays: two counts go up in turn, each by what `label_next` says comes next, so neither runs over a range.
     while (cell < cells) | (label < labels) {
         if labels::is_next(image, label, cell) {
-            at = words::put(page, at, labels::line(image, label));
+            at = words::put(page, at, &labels::line(image, label));
             label += 1;
         } else {
-            at = words::put(page, at, statements::opening(image, firsts, cell));
-            at = words::put(page, at, statements::operands(image, cell));
+            at = words::put(page, at, &statements::opening(image, firsts, cell));
+            at = words::put(page, at, &statements::operands(image, cell));
             cell += 1;
         }
     }
     at
 }
 
-// Copies what a page holds to the front of a buffer, if there is room; and tells how much that is.
-fn give(page: &[u8], held: usize, text: &mut [u8]) -> usize
-    requires { held ≤ length page.now }
-    ensures { (result ≡ held) × (text.new ≡ if_room (take held page.now) text.old) }
+// Copies bytes to the front of a buffer, if there is room.
+fn give(bytes: &[u8], text: &mut [u8])
+    ensures { text.new ≡ if_room bytes.now text.old }
 {
-    if text.len() < held {
-        return held;
+    if bytes.len() <= text.len() {
+        text[..bytes.len()].copy_from_slice(bytes);
     }
-    for i in 0..held {
-        text[i] = page[i];
-    }
-    held
 }
 
 // The listing of an image, no longer than the longest, to the front of a buffer if there is room; and its length.
@@ -121,5 +117,6 @@ pub fn write_listing(image: &[u8], text: &mut [u8]) -> usize
     let firsts = labels::firsts(image);
     let mut page = [0u8; LONGEST];
     let length = put_lines(image, &firsts, &mut page);
-    give(&page, length, text)
+    give(&page[..length], text);
+    length
 }

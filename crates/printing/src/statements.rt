@@ -4,7 +4,6 @@ ghost use mathlib.Core.List.{[], ◌∷◌, ◌++◌, flat_map};
 ghost use Rattle.image.specs.Layout.{operand_at, cell_at};
 ghost use Rattle.printing.specs.Code.{packed, if_so, operand_text, jumps, target_key, name_after, opening_text, mnemonic_key, end_of, operator_text, comparison_text, sign_text, operands_text};
 
-use crate::words::Words;
 use crate::{Two, words};
 use image::{
     CELL_BYTES, LEFT, LITERAL, RIGHT, RIGHT_SHAPE, SELECTOR, SHAPES, TARGET, VARIABLE, WRITTEN,
@@ -64,13 +63,11 @@ fn target_key(firsts: &[u16], target: u16) -> u16
     if target == Cell::NO_TARGET {
         return NO_LABEL;
     }
-    if firsts.len() <= target as usize {
-        return 0;
-    }
-    firsts[target as usize]
+    firsts.get(usize::from(target)).copied().unwrap_or(0)
 }
 
 // The key of the name that a statement begins with, or has behind its mnemonic; 0 where there is none.
+// Stays: 0 for none is what `name_key` says, and the word of no bytes, which is written as it is.
 fn name_key(image: &[u8], firsts: &[u16], operation: u8, place: usize) -> u16
     requires { place ≤ 1048560 }
     ensures { result ≡ name_after image.now firsts.now operation place }
@@ -115,7 +112,7 @@ fn end(operation: u8, more: bool) -> u64
 }
 
 // What stands before the operands.
-pub fn opening(image: &[u8], firsts: &[u16], cell: u16) -> Words
+pub fn opening(image: &[u8], firsts: &[u16], cell: u16) -> [u64; 4]
     ensures { flat_map packed result ≡ opening_text image.now firsts.now (cell_at image.now cell) }
 {
     let place = CELL_BYTES * (cell as usize);
@@ -129,8 +126,6 @@ pub fn opening(image: &[u8], firsts: &[u16], cell: u16) -> Words
         space_if(spaced),
         name as u64,
         end(operation, more),
-        0,
-        0,
     ]
 }
 
@@ -177,7 +172,7 @@ fn sign(operation: u8, selector: u8) -> u64
 }
 
 // The operands, with the sign between them, and the end of the line.
-pub fn operands(image: &[u8], cell: u16) -> Words
+pub fn operands(image: &[u8], cell: u16) -> [u64; 6]
     ensures { flat_map packed result ≡ operands_text image.now (cell_at image.now cell) }
 {
     let place = CELL_BYTES * (cell as usize);

@@ -1,4 +1,5 @@
 // Words: a few bytes as one number, the lowest first, none of them 0. Numbers as words, and words on a page.
+// Stays: no call can fail, so no heap: a line of pieces of many lengths stands in one array of fixed size only as numbers; `packed` (specs/Code.antt) says the bytes of each, and `opening_text` and its kin go by it.
 ghost use Rattle.std.specs.Prelude.{◌≡◌, ◌≤◌, ◌<◌};
 ghost use mathlib.Core.List.{◌++◌, flat_map};
 ghost use Rattle.numbers.specs.Bytes.{number};
@@ -7,11 +8,6 @@ ghost use Rattle.printing.specs.Listing.{printed, width, plain};
 ghost use Rattle.printing.specs.Code.{packed, at_least, Put};
 
 use crate::Two;
-
-// The words of a line, or of half of one.
-pub type Words = [u64; WORDS];
-
-const WORDS: usize = 6;
 
 // Signs and endings.
 pub const END: u64 = b'\n' as u64;
@@ -27,35 +23,28 @@ const FEW: usize = 5;
 
 const MANY: u32 = 100000;
 
-// The bits of a negative number begin here, and the last are those of -1.
-const HALF: u32 = 2147483648;
-
-const LAST: u32 = 4294967295;
-
 // Adds words to a page, and tells the place behind them. What there is no room for is left out.
-pub fn put(page: &mut [u8], at: usize, words: Words) -> usize
-    ensures { Put (flat_map packed words) page.old at result page.new }
+pub fn put(page: &mut [u8], at: usize, words: &[u64]) -> usize
+    ensures { Put (flat_map packed words.now) page.old at result page.new }
 {
     let mut i = at;
-    let mut rest: u64 = 0;
-    let mut k: usize = 0;
-    while i < page.len() {
-        if rest != 0 {
+    for word in words {
+        let mut rest = *word;
+        // Stays: the loop ends with the number and no range counts it: `for byte in word.to_le_bytes()` would need a test for the zeros behind in every turn.
+        while rest != 0 {
+            if page.len() <= i {
+                return i;
+            }
             page[i] = (rest % 256) as u8;
             rest = rest / 256;
             i += 1;
-        } else {
-            if WORDS <= k {
-                return i;
-            }
-            rest = words[k];
-            k += 1;
         }
     }
     i
 }
 
 // A number below 100,000 in decimal, as a word, in no fewer digits than asked for.
+// Stays: the clause says which digits stand in the word (`printed`), and what `write!` gives has no such clause; the loop is five lines.
 fn digits(n: u32, least: usize) -> u64
     requires { (n < 100000) × (0 < least) × (least ≤ 5) }
     ensures { (result ≡ number (printed (at_least least (width n)) n)) × (result < 1099511627776) }
@@ -92,10 +81,11 @@ fn decimal(n: u32) -> Two
 pub fn literal(bits: u32) -> Two
     ensures { packed result.first ++ packed result.second ≡ plain (signed32 bits) }
 {
-    if bits < HALF {
-        return decimal(bits);
+    let value = numbers::signed(bits);
+    let two = decimal(value.unsigned_abs());
+    if 0 <= value {
+        return two;
     }
-    let two = decimal((LAST - bits) + 1);
     Two {
         first: MINUS + 256 * two.first,
         second: two.second,

@@ -1,64 +1,46 @@
 // The arguments of the program: a command, an option behind it if wanted, and what it works on.
-ghost use Rattle.std.specs.Prelude.{◌≤◌};
-
-use crate::paths;
-use crate::paths::Name;
+use crate::paths::PATH_MAX;
+use parts::Text;
 use std::env::{Env, FillError};
 
-// Options, by their numbers in the table of words; one that is none, by the words for it.
-pub const SHORT_HELP: u32 = 10;
+// An argument, as much of it as a name may have. One that is longer fills the room, and names no file.
+pub type Name = Text<PATH_MAX>;
 
-pub const LONG_HELP: u32 = 11;
-
-pub const FORCE: u32 = 13;
-
-pub const TEXTS: u32 = 14;
-
-pub const NO_OPTION: u32 = 29;
-
-// Puts an argument into an array, and answers its length; one that is too long for a name fills the array, and names no file.
-pub fn argument(rt: &HostRuntime, i: usize, word: &mut Name) -> usize
-    ensures { result ≤ 4096 }
-{
-    match rt.arg(i, word) {
+// The argument of this number; an empty one where there is none.
+pub fn name(rt: &HostRuntime, number: usize) -> Name {
+    let mut room = [0u8; PATH_MAX];
+    let length = match rt.arg(number, &mut room) {
         Ok(length) => length,
-        Err(FillError::TooLong) => paths::PATH_MAX,
+        Err(FillError::TooLong) => PATH_MAX,
         Err(FillError::NotPresent) => 0,
-    }
+    };
+    Name::empty().bytes(parts::front(&room, length))
 }
 
-// The same with one of two numbers.
-pub fn argument_at(rt: &HostRuntime, second: bool, i: usize, j: usize, word: &mut Name) -> usize {
-    if second {
-        return argument(rt, j, word);
+// What a command works on.
+#[derive(Clone, Copy)]
+pub struct Arguments([Name; 4]);
+
+impl Arguments {
+    // The arguments from this number on.
+    pub fn read(rt: &HostRuntime, first: usize) -> Arguments {
+        Arguments([0, 1, 2, 3].map(|i| name(rt, first.saturating_add(i))))
     }
-    argument(rt, i, word)
+
+    pub fn words(&self) -> [&[u8]; 4] {
+        let [a, b, c, d] = &self.0;
+        [a.held(), b.held(), c.held(), d.held()]
+    }
 }
 
 // Whether there is an argument, however long.
-fn is_there(rt: &HostRuntime, i: usize) -> bool {
+fn is_there(rt: &HostRuntime, number: usize) -> bool {
     let mut first = [0u8; 1];
-    !matches!(rt.arg(i, &mut first), Err(FillError::NotPresent))
+    !matches!(rt.arg(number, &mut first), Err(FillError::NotPresent))
 }
 
 // How many arguments there are, the program's name among them.
 pub fn count(rt: &HostRuntime) -> usize {
-    for i in 0..usize::MAX {
-        if !is_there(rt, i) {
-            return i;
-        }
-    }
-    usize::MAX
-}
-
-// The option behind the command, if there is one.
-pub fn option(rt: &HostRuntime) -> u32 {
-    let mut word = paths::name();
-    let length = argument(rt, 2, &mut word);
-    let name = paths::of_name(&word, length);
-    let number = words::number_for(words::COMMAND, name);
-    if (number == 0) & paths::is_dashed(name) {
-        return NO_OPTION;
-    }
-    number
+    let mut numbers = 0..usize::MAX;
+    numbers.find(|i| !is_there(rt, *i)).unwrap_or(usize::MAX)
 }

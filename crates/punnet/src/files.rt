@@ -2,13 +2,14 @@
 ghost use Rattle.std.specs.Prelude.{◌≤◌, length};
 ghost use Rattle.std.specs.Io.{ReadsAtMost};
 
-use crate::commands::{ACCEPTED, TROUBLE};
-use crate::{Contents, Facts, paths, seen};
-use parts::{Line, writing};
+use crate::uses::{Command, Wrong};
+use crate::{Facts, Failure, paths, seen};
+use parts::{Line, Page, Text};
 use std::fs::File;
 use std::io::{Read, Write};
-use std::{io, str};
+use std::{fmt, io, str};
 use telling::refusals;
+use words::Part;
 
 // Room for what the system says of an error.
 const ERROR: usize = 256;
@@ -20,63 +21,69 @@ pub fn tell_bytes(rt: &HostRuntime, bytes: &[u8]) {
 
 // Writes a line to standard error.
 pub fn tell(rt: &HostRuntime, line: Line) {
-    let bytes = line.bytes;
-    tell_bytes(rt, writing::held_in(&bytes, line.held));
+    tell_bytes(rt, line.held());
 }
 
 // The same behind what was given, a word or a file.
 pub fn tell_behind(rt: &HostRuntime, given: &[u8], line: Line) {
-    let mut page = writing::page();
-    let held = telling::name(&mut page, given);
-    tell_bytes(rt, writing::held_on(&page, held));
+    tell_name(rt, given);
     tell(rt, line);
 }
 
-fn tell_part(rt: &HostRuntime, number: u32) {
-    tell(rt, telling::part(Line::empty(), number));
+fn tell_name(rt: &HostRuntime, given: &[u8]) {
+    let mut page = Page::empty();
+    telling::name(&mut page, given);
+    tell_bytes(rt, page.held());
 }
 
-// Tells what is wrong with a word or a file that was given, and answers the status.
-pub fn complain(rt: &HostRuntime, given: &[u8], number: u32) -> u8 {
-    tell_part(rt, words::PUNNET);
+fn tell_part(rt: &HostRuntime, part: Part) {
+    tell(rt, telling::part(Line::empty(), part));
+}
+
+// Tells what is wrong with a word or a file that was given.
+pub fn complain(rt: &HostRuntime, given: &[u8], wrong: Wrong) -> Failure {
+    tell_use(rt, given, wrong as u32)
+}
+
+// Tells what arguments a command takes.
+pub fn complain_of_arguments(rt: &HostRuntime, given: &[u8], command: Command) -> Failure {
+    tell_use(rt, given, command as u32)
+}
+
+fn tell_use(rt: &HostRuntime, given: &[u8], number: u32) -> Failure {
+    tell_part(rt, Part::Punnet);
     tell_behind(rt, given, refusals::of_use(number));
-    TROUBLE
+    Failure::Trouble
 }
 
 // Tells which file, and what the system says of it.
-pub fn trouble(rt: &HostRuntime, path: &[u8], error: &io::Error) {
-    tell_part(rt, words::PUNNET);
-    let mut page = writing::page();
-    let held = telling::name(&mut page, path);
-    fail(rt, writing::held_on(&page, held), error);
+pub fn trouble(rt: &HostRuntime, path: &[u8], error: &io::Error) -> Failure {
+    tell_part(rt, Part::Punnet);
+    tell_name(rt, path);
+    fail(rt, error)
 }
 
 // Tells that standard output could not be written.
-pub fn trouble_with_output(rt: &HostRuntime, error: &io::Error) {
-    tell_part(rt, words::PUNNET);
-    let line = telling::part(Line::empty(), words::STANDARD_OUTPUT);
-    let bytes = line.bytes;
-    fail(rt, writing::held_in(&bytes, line.held), error);
+pub fn trouble_with_output(rt: &HostRuntime, error: &io::Error) -> Failure {
+    tell_part(rt, Part::Punnet);
+    tell_part(rt, Part::StandardOutput);
+    fail(rt, error)
 }
 
-// Tells what failed, and what the system says.
-fn fail(rt: &HostRuntime, what: &[u8], error: &io::Error) {
-    let mut room = [0u8; ERROR];
-    let held = put_error(&mut room, error);
-    tell_bytes(rt, what);
+// Tells what the system says of what failed.
+fn fail(rt: &HostRuntime, error: &io::Error) -> Failure {
+    let said = said_of(error);
     tell_bytes(rt, b": ");
-    tell_bytes(rt, without_number(parts::front(&room, held)));
+    tell_bytes(rt, without_number(said.held()));
     tell_bytes(rt, b"\n");
+    Failure::Trouble
 }
 
-// Writes what is said of an error, and answers how long that is.
-fn put_error(room: &mut [u8], error: &io::Error) -> usize
-    ensures { result ≤ length room.old }
-{
-    let length = room.len();
-    let mut rest = room;
-    let _ = write!(rest, "{error}");
-    length.saturating_sub(rest.len())
+// What is said of an error.
+fn said_of(error: &io::Error) -> Text<ERROR> {
+    let mut said = Text::empty();
+    let _ = fmt::Write::write_fmt(&mut said, format_args!("{error}"));
+    said
 }
 
 // The system's own words, without the number that std puts behind them.
@@ -98,22 +105,11 @@ pub fn look(rt: &HostRuntime, path: &[u8]) -> io::Result<Facts> {
     seen::look_at(rt, path)
 }
 
-// No contents, for a reason.
-pub fn nothing(status: u8) -> Contents {
-    Contents { length: 0, status }
-}
-
 // Reads a file, as much of it as there is room for. What is wrong with it is told.
-pub fn read(rt: &HostRuntime, path: &[u8], room: &mut [u8]) -> Contents {
+pub fn read<'a>(rt: &HostRuntime, path: &[u8], room: &'a mut [u8]) -> Result<&'a [u8], Failure> {
     match fill_from(rt, path, room) {
-        Ok(length) => Contents {
-            length,
-            status: ACCEPTED,
-        },
-        Err(error) => {
-            trouble(rt, path, &error);
-            nothing(TROUBLE)
-        }
+        Ok(length) => Ok(parts::front(room, length)),
+        Err(error) => Err(trouble(rt, path, &error)),
     }
 }
 
@@ -130,6 +126,7 @@ pub fn open(rt: &HostRuntime, path: &[u8]) -> io::Result<File> {
 }
 
 // Reads until the room is full or the file is at its end, and answers how many bytes there were. A read that fails is no end.
+// Stays: a file that is longer is cut where the room ends, so the room is fixed; the clause `ReadsAtMost` of this function says so.
 pub fn fill<R: Read>(file: &mut R, room: &mut [u8]) -> io::Result<usize>
     ensures { ReadsAtMost result room.new }
 {

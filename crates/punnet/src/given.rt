@@ -1,92 +1,77 @@
 // What a command is given besides its text or image: events and turns.
-use crate::commands::ACCEPTED;
-use crate::{Contents, commands, files, paths};
+use crate::uses::Wrong;
+use crate::{Failure, commands, files, paths};
+use scripts::Fault;
 use telling::refusals;
 
 // The most turns that a run may take.
-pub const MOST_TURNS: u64 = 4096;
-
-// What a word is that is no number.
-pub const NO_NUMBER: u64 = u64::MAX;
+const MOST_TURNS: u64 = 4096;
 
 // The longest file of events that is read.
-const ROOM: usize = 262144;
-
-type Room = [u8; ROOM];
+const LONGEST: usize = 262144;
 
 // Room for more events than a run takes, and for any other file.
-pub type Buffer = [u8; 65536];
+// Stays: the bench's calls fill a lent buffer, and their contracts (`Translates`, `Runs` in crates/bench/specs/Calls.antt) say how much of it.
+pub const ROOM: usize = 65536;
 
-const LONG_FILE: u32 = 28;
-
-pub fn buffer() -> Buffer {
-    [0; 65536]
+// The number that a word is, if it is one. Digits without end are more than any run may take turns.
+pub fn number(word: &[u8]) -> Option<u64> {
+    match scripts::digits(word) {
+        Ok(number) => Some(number),
+        Err(Fault::BigNumber) => Some(MOST_TURNS + 1),
+        Err(Fault::BadForm) => None,
+    }
 }
 
-// The first bytes of a buffer.
-pub fn of_buffer<'a>(buffer: &'a Buffer, length: usize) -> &'a [u8] {
-    parts::front(buffer, length)
-}
-
-// The number that a word is. Digits without end are more than any run may take turns.
-pub fn number(word: &[u8]) -> u64 {
-    let number = scripts::digits(word);
-    if number.fault == scripts::BIG_NUMBER {
-        return MOST_TURNS + 1;
+// The number of turns that a word gives; the most where there is no word. What is wrong with it is told.
+pub fn turns(rt: &HostRuntime, word: &[u8]) -> Result<u64, Failure> {
+    if word.is_empty() {
+        return Ok(MOST_TURNS);
     }
-    if number.fault != scripts::NO_FAULT {
-        return NO_NUMBER;
+    let Some(turns) = number(word) else {
+        return Err(files::complain(rt, word, Wrong::NoTurns));
+    };
+    if MOST_TURNS < turns {
+        return Err(commands::refuse(rt, word, refusals::of_turns()));
     }
-    number.size
-}
-
-// The number of turns that a word gives; the most where there is no word.
-pub fn turns(word: &[u8]) -> u64 {
-    if word.len() == 0 {
-        return MOST_TURNS;
-    }
-    number(word)
+    Ok(turns)
 }
 
 // Reads the events that a run is given; no name and `-` mean none.
-pub fn events(rt: &HostRuntime, path: &[u8], bytes: &mut Buffer) -> Contents {
-    if (path.len() == 0) | paths::is_dash(path) {
-        return files::nothing(ACCEPTED);
+pub fn events<'a>(rt: &HostRuntime, path: &[u8], room: &'a mut [u8]) -> Result<&'a [u8], Failure> {
+    if path.is_empty() | paths::is_dash(path) {
+        return Ok(&[]);
     }
-    script(rt, path, bytes)
+    script(rt, path, room)
 }
 
 // Reads a file of events, a script or bytes. What is wrong with it is told.
-pub fn script(rt: &HostRuntime, path: &[u8], bytes: &mut Buffer) -> Contents {
-    let mut file = [0u8; ROOM];
-    let contents = files::read(rt, path, &mut file);
-    if contents.status != ACCEPTED {
-        return contents;
+pub fn script<'a>(rt: &HostRuntime, path: &[u8], room: &'a mut [u8]) -> Result<&'a [u8], Failure> {
+    let mut long_room = [0u8; LONGEST];
+    let file = files::read(rt, path, &mut long_room)?;
+    if file.len() == LONGEST {
+        return Err(files::complain(rt, path, Wrong::LongFile));
     }
-    if contents.length == ROOM {
-        return files::nothing(files::complain(rt, path, LONG_FILE));
+    match scripts::read(file, room) {
+        Ok(length) => accepted(rt, path, file, parts::front(room, length)),
+        Err(faulty) => Err(commands::refuse(rt, path, refusals::of_script(file, faulty))),
     }
-    of_file(rt, path, of_room(&file, contents.length), bytes)
 }
 
-fn of_room<'a>(room: &'a Room, length: usize) -> &'a [u8] {
-    parts::front(room, length)
-}
-
-fn of_file(rt: &HostRuntime, path: &[u8], file: &[u8], bytes: &mut Buffer) -> Contents {
-    let read = scripts::read(file, bytes);
-    let length = read.length;
-    let told = refusals::of_events(file, of_buffer(bytes, length), read.line, read.fault);
-    if told.held == 0 {
-        return Contents {
-            length,
-            status: ACCEPTED,
-        };
+// The events of a file, where a run takes them.
+fn accepted<'a>(
+    rt: &HostRuntime,
+    path: &[u8],
+    file: &[u8],
+    events: &'a [u8],
+) -> Result<&'a [u8], Failure> {
+    match refusals::of_events(file, events) {
+        Some(told) => Err(commands::refuse(rt, path, told)),
+        None => Ok(events),
     }
-    files::nothing(commands::refuse(rt, path, told))
 }
 
 // Whether bytes are events that a run takes.
 pub fn are_events(bytes: &[u8]) -> bool {
-    telling::given::first_refused(bytes) == events::script::event_count(bytes)
+    telling::given::first_refused(bytes).is_none()
 }

@@ -1,22 +1,28 @@
 // The commands on images alone: check and list.
-use crate::{commands, given};
+use crate::outputs::Output;
+use crate::{Done, commands, files, given};
 use telling::refusals;
 
 // check IMAGE
-pub fn check(rt: &HostRuntime, path: &[u8], image: &[u8]) -> u8 {
+pub fn check(rt: &HostRuntime, path: &[u8]) -> Done {
+    let mut room = [0u8; given::ROOM];
+    let image = files::read(rt, path, &mut room)?;
     let checked = bench::check(image);
     if checked.number != 0 {
-        return commands::refuse(rt, path, refusals::of_image(image, checked.number));
+        return Err(commands::refuse(rt, path, refusals::of_image(image, checked.number)));
     }
-    commands::tell_of(rt, path, commands::counts(image.len(), image), &image[..0])
+    commands::tell_of(rt, path, commands::counts(image.len(), image), b"")
 }
 
 // list [-f] IMAGE [TEXT]
-pub fn list(rt: &HostRuntime, path: &[u8], image: &[u8], to: &[u8]) -> u8 {
-    let mut room = given::buffer();
-    let listed = bench::list(image, &mut room);
+pub fn list(rt: &HostRuntime, path: &[u8], to: Output) -> Done {
+    to.may_replace(rt)?;
+    let mut room = [0u8; given::ROOM];
+    let image = files::read(rt, path, &mut room)?;
+    let mut text = [0u8; given::ROOM];
+    let listed = bench::list(image, &mut text);
     if listed.number != 0 {
-        return commands::refuse(rt, path, refusals::of_image(image, listed.number));
+        return Err(commands::refuse(rt, path, refusals::of_image(image, listed.number)));
     }
-    commands::keep_program(rt, to, given::of_buffer(&room, listed.length), image)
+    commands::keep_program(rt, to.path, parts::front(&text, listed.length), image)
 }

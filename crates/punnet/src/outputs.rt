@@ -2,30 +2,32 @@
 // only a plain file is replaced, and, unless that is asked for, only one of the kind that is written; a text or a list, which no byte tells, replaces none.
 ghost use Rattle.std.specs.Prelude.{◌<◌, ◌≤◌, ◌↔◌, IsTrue};
 
-use crate::arguments::NO_OPTION;
-use crate::commands::ACCEPTED;
-use crate::{Facts, Part, commands, files, given, paths, seen};
-use parts::{Line, Page, writing};
+use crate::uses::Wrong;
+use crate::{Done, Facts, commands, files, given, paths, seen};
+use parts::{Line, Page};
 use std::fs::{File, OpenOptions, Permissions};
 use std::io::Write;
 use std::os::unix::fs::{PermissionsExt, fchown};
 use std::{fs, io};
+use words::Part;
 
-// The kinds of file that are written, by the words for a file that holds something else, or for any that is there.
-pub const IMAGE: u32 = 23;
+// What a file that is written holds; a text or a list is told by no byte.
+#[derive(Clone, Copy)]
+pub enum Kind {
+    Image,
+    Records,
+    Events,
+    Unknown,
+}
 
-pub const RECORDS: u32 = 24;
-
-pub const EVENTS: u32 = 25;
-
-pub const UNKNOWN: u32 = 33;
-
-// What else is wrong with a file that is to be written.
-const SOURCE: u32 = 21;
-
-const NOT_PLAIN: u32 = 22;
-
-const LEFT_OVER: u32 = 30;
+// A file that is to be written: its name, what it will hold, whether it may take the place of any plain file, and the two at most that are read.
+#[derive(Clone, Copy)]
+pub struct Output<'a> {
+    pub path: &'a [u8],
+    kind: Kind,
+    force: bool,
+    sources: [&'a [u8]; 2],
+}
 
 // The system's number for a name that is taken.
 const TAKEN: i32 = 17;
@@ -38,40 +40,114 @@ const MOST_BEHIND: usize = 10;
 
 const LONGEST_BASE: usize = 245;
 
-// Whether bytes are of a kind, or there are none.
-fn are_of_kind(bytes: &[u8], kind: u32) -> bool {
-    if bytes.len() == 0 {
-        return true;
+impl Kind {
+    // Whether bytes are of the kind, or there are none.
+    fn is_of(self, bytes: &[u8]) -> bool {
+        if bytes.is_empty() {
+            return true;
+        }
+        match self {
+            Kind::Image => bench::check(bytes).number == 0,
+            Kind::Records => telling::given::are_entries(bytes),
+            Kind::Events => given::are_events(bytes),
+            Kind::Unknown => false,
+        }
     }
-    match kind {
-        IMAGE => bench::check(bytes).number == 0,
-        RECORDS => telling::given::are_entries(bytes),
-        _ => given::are_events(bytes),
+
+    // What is wrong with a file that holds something else.
+    fn missed(self) -> Wrong {
+        match self {
+            Kind::Image => Wrong::NoImage,
+            Kind::Records => Wrong::NoRecords,
+            Kind::Events => Wrong::NoEvents,
+            Kind::Unknown => Wrong::IsThere,
+        }
     }
 }
 
-// Whether a plain file holds what is of a kind. One that cannot be read does not.
-fn holds(rt: &HostRuntime, path: &[u8], kind: u32) -> bool {
-    let mut room = given::buffer();
-    match read(rt, path, &mut room) {
-        Ok(length) => are_of_kind(given::of_buffer(&room, length), kind),
-        Err(_) => false,
+impl<'a> Output<'a> {
+    pub fn of(path: &'a [u8], kind: Kind, force: bool, sources: [&'a [u8]; 2]) -> Output<'a> {
+        Output {
+            path,
+            kind,
+            force,
+            sources,
+        }
+    }
+
+    // Whether the file may be written; else it is told. No name means none.
+    pub fn may_replace(self, rt: &HostRuntime) -> Done {
+        if self.path.is_empty() | paths::is_dash(self.path) {
+            return Ok(());
+        }
+        match seen::look_at(rt, self.path) {
+            Ok(there) => self.may_replace_there(rt, there),
+            Err(error) => self.is_new(rt, &error),
+        }
+    }
+
+    // Whether there is nothing yet; another reason why nothing is seen is told, and so is a name that was meant as an option.
+    fn is_new(self, rt: &HostRuntime, error: &io::Error) -> Done {
+        if error.kind() != io::ErrorKind::NotFound {
+            return Err(files::trouble(rt, self.path, error));
+        }
+        if paths::is_dashed(self.path) {
+            return Err(files::complain(rt, self.path, Wrong::NoOption));
+        }
+        Ok(())
+    }
+
+    // The same of a file that is there.
+    fn may_replace_there(self, rt: &HostRuntime, there: Facts) -> Done {
+        match self.objection(rt, there) {
+            Some(wrong) => Err(files::complain(rt, self.path, wrong)),
+            None => self.may_write(rt),
+        }
+    }
+
+    // What speaks against replacing what is there.
+    fn objection(self, rt: &HostRuntime, there: Facts) -> Option<Wrong> {
+        if self.is_read(rt, there) {
+            return Some(Wrong::IsRead);
+        }
+        if !there.plain {
+            return Some(Wrong::NotPlain);
+        }
+        if self.force || self.holds(rt) {
+            return None;
+        }
+        Some(self.kind.missed())
+    }
+
+    // Whether it is one of those that are read.
+    fn is_read(self, rt: &HostRuntime, there: Facts) -> bool {
+        let [first, second] = self.sources;
+        seen::same(there, files::look(rt, first)) | seen::same(there, files::look(rt, second))
+    }
+
+    // Whether a plain file holds what is of the kind. One that cannot be read does not, and none holds what no byte tells.
+    fn holds(self, rt: &HostRuntime) -> bool {
+        if matches!(self.kind, Kind::Unknown) {
+            return false;
+        }
+        let mut room = [0u8; given::ROOM];
+        match read(rt, self.path, &mut room) {
+            Ok(length) => self.kind.is_of(parts::front(&room, length)),
+            Err(_) => false,
+        }
+    }
+
+    // Whether this user may write a plain file; else it is told.
+    fn may_write(self, rt: &HostRuntime) -> Done {
+        match open_update(rt, self.path) {
+            Ok(_) => Ok(()),
+            Err(error) => Err(files::trouble(rt, self.path, &error)),
+        }
     }
 }
 
 fn read(rt: &HostRuntime, path: &[u8], room: &mut [u8]) -> io::Result<usize> {
     files::fill(&mut files::open(rt, path)?, room)
-}
-
-// Whether this user may write a plain file; else it is told.
-fn may_write(rt: &HostRuntime, path: &[u8]) -> bool {
-    match open_update(rt, path) {
-        Ok(_) => true,
-        Err(error) => {
-            files::trouble(rt, path, &error);
-            false
-        }
-    }
 }
 
 // Opens a file that is there, to be read and written.
@@ -80,94 +156,6 @@ fn open_update(rt: &HostRuntime, path: &[u8]) -> io::Result<File> {
         .read(true)
         .write(true)
         .open(rt, paths::text(path)?)
-}
-
-// What speaks against replacing what is there: the words for it, or 0.
-fn objection(
-    rt: &HostRuntime,
-    path: &[u8],
-    kind: u32,
-    force: bool,
-    is_plain: bool,
-    is_read: bool,
-) -> u32 {
-    if is_read {
-        return SOURCE;
-    }
-    if !is_plain {
-        return NOT_PLAIN;
-    }
-    if force {
-        return 0;
-    }
-    if kind == UNKNOWN {
-        return kind;
-    }
-    if holds(rt, path, kind) {
-        return 0;
-    }
-    kind
-}
-
-// Whether there is nothing yet; another reason why nothing is seen is told, and so is a name that was meant as an option.
-fn is_new(rt: &HostRuntime, path: &[u8], error: &io::Error) -> bool {
-    if error.kind() != io::ErrorKind::NotFound {
-        files::trouble(rt, path, error);
-        return false;
-    }
-    if paths::is_dashed(path) {
-        files::complain(rt, path, NO_OPTION);
-        return false;
-    }
-    true
-}
-
-// Whether a file is one of the two at most that are read.
-fn is_read(rt: &HostRuntime, there: Facts, first: &[u8], second: &[u8]) -> bool {
-    seen::same(there, files::look(rt, first)) | seen::same(there, files::look(rt, second))
-}
-
-// Whether a file may be written, beside the two at most that are read; else it is told. No name means none.
-pub fn may_replace(
-    rt: &HostRuntime,
-    path: &[u8],
-    kind: u32,
-    force: bool,
-    first: &[u8],
-    second: &[u8],
-) -> bool {
-    if (path.len() == 0) | paths::is_dash(path) {
-        return true;
-    }
-    match seen::look_at(rt, path) {
-        Ok(there) => may_replace_there(rt, path, kind, force, there, first, second),
-        Err(error) => is_new(rt, path, &error),
-    }
-}
-
-// The same of a file that is there.
-fn may_replace_there(
-    rt: &HostRuntime,
-    path: &[u8],
-    kind: u32,
-    force: bool,
-    there: Facts,
-    first: &[u8],
-    second: &[u8],
-) -> bool {
-    let number = objection(
-        rt,
-        path,
-        kind,
-        force,
-        there.plain,
-        is_read(rt, there, first, second),
-    );
-    if number == 0 {
-        return may_write(rt, path);
-    }
-    files::complain(rt, path, number);
-    false
 }
 
 // Whether a byte continues a character.
@@ -201,9 +189,10 @@ fn cut<'a>(path: &'a [u8]) -> &'a [u8] {
 }
 
 // The name of a new file: `.part` and a number behind the one that is meant.
-fn put_part_name(page: &mut Page, path: &[u8], k: u16) -> usize {
-    let base = writing::put(page, 0, cut(path));
-    telling::part_number(Line::empty(), words::UNFINISHED, k as u64).onto(page, base)
+fn put_part_name(page: &mut Page, path: &[u8], k: u16) {
+    page.clear();
+    page.add(cut(path));
+    telling::part_number(Line::empty(), Part::Unfinished, k as u64).onto(page);
 }
 
 // Makes a file, where its name is not taken.
@@ -214,12 +203,12 @@ fn create(rt: &HostRuntime, path: &[u8]) -> io::Result<File> {
         .open(rt, paths::text(path)?)
 }
 
-// Makes one beside the file that is meant. The first of its names that is taken is told.
-fn make_part(rt: &HostRuntime, path: &[u8], page: &mut Page) -> io::Result<Part> {
+// Makes one beside the file that is meant, with its name on a page. The first of its names that is taken is told.
+fn make_part(rt: &HostRuntime, path: &[u8], page: &mut Page) -> io::Result<File> {
     for k in 0..MOST_PARTS {
-        let length = put_part_name(page, path, k);
-        match create(rt, writing::held_on(page, length)) {
-            Ok(file) => return Ok(Part { length, file }),
+        put_part_name(page, path, k);
+        match create(rt, page.held()) {
+            Ok(file) => return Ok(file),
             Err(error) => {
                 if error.kind() != io::ErrorKind::AlreadyExists {
                     return Err(error);
@@ -227,7 +216,7 @@ fn make_part(rt: &HostRuntime, path: &[u8], page: &mut Page) -> io::Result<Part>
             }
         }
         if k == 0 {
-            files::complain(rt, writing::held_on(page, length), LEFT_OVER);
+            files::complain(rt, page.held(), Wrong::LeftOver);
         }
     }
     Err(io::Error::from_raw_os_error(TAKEN))
@@ -269,46 +258,36 @@ fn remove(rt: &HostRuntime, part: &[u8]) {
 }
 
 // Puts a file that is being written in the place of the one that is meant. Where that fails it is told, and what was there stays.
-fn replace(rt: &HostRuntime, file: File, part: &[u8], path: &[u8], bytes: &[u8]) -> bool {
+fn replace(rt: &HostRuntime, file: File, part: &[u8], path: &[u8], bytes: &[u8]) -> Done {
     match put_in_place(rt, file, part, path, bytes) {
-        Ok(()) => true,
+        Ok(()) => Ok(()),
         Err(error) => {
-            files::trouble(rt, path, &error);
+            let failure = files::trouble(rt, path, &error);
             remove(rt, part);
-            false
+            Err(failure)
         }
     }
 }
 
 // Writes a file whole: under another name in the same folder first, which then takes the place of what was there.
-fn write_whole(rt: &HostRuntime, path: &[u8], bytes: &[u8]) -> bool {
-    let mut page = writing::page();
-    match make_part(rt, path, &mut page) {
-        Ok(part) => {
-            let Part { length, file } = part;
-            replace(rt, file, writing::held_on(&page, length), path, bytes)
-        }
-        Err(error) => {
-            files::trouble(rt, path, &error);
-            false
-        }
+fn write_whole(rt: &HostRuntime, path: &[u8], bytes: &[u8]) -> Done {
+    let mut part = Page::empty();
+    match make_part(rt, path, &mut part) {
+        Ok(file) => replace(rt, file, part.held(), path, bytes),
+        Err(error) => Err(files::trouble(rt, path, &error)),
     }
 }
 
 // Writes the file behind a name and its links, or standard output for `-`; nothing where no file is named.
-pub fn write(rt: &HostRuntime, path: &[u8], bytes: &[u8]) -> bool {
-    if path.len() == 0 {
-        return true;
+pub fn write(rt: &HostRuntime, path: &[u8], bytes: &[u8]) -> Done {
+    if path.is_empty() {
+        return Ok(());
     }
     if paths::is_dash(path) {
-        return commands::done(rt, bytes) == ACCEPTED;
+        return commands::done(rt, bytes);
     }
-    let mut page = writing::page();
-    match paths::put_behind_links(rt, &mut page, path) {
-        Ok(length) => write_whole(rt, writing::held_on(&page, length), bytes),
-        Err(error) => {
-            files::trouble(rt, path, &error);
-            false
-        }
+    match paths::behind_links(rt, path) {
+        Ok(target) => write_whole(rt, target.held(), bytes),
+        Err(error) => Err(files::trouble(rt, path, &error)),
     }
 }

@@ -10,6 +10,7 @@ use std::{fs, io};
 const KIND: u32 = 4096;
 
 // The same file, by whatever names. Where nothing is seen by the second name, it is no file.
+// Stays: this clause and the edit `same_by_either` tell the device from the number, and the other facts do not count; a derive compares all.
 pub fn same(a: Facts, b: io::Result<Facts>) -> bool
     ensures { IsTrue result ↔ IsOkAnd b (λ seen. (a.device ≡ seen.device) × (a.number ≡ seen.number)) }
 {

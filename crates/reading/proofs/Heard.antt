@@ -10,16 +10,18 @@ use native.Mathlib.Omega.{arith}
 use borrow.Author.Tests.{ne_eqb}
 use lib.Dec.{T, eqb, leb, leb→le, eqb→eq}
 use lib.ListN.{length}
+use Rattle.std.specs.Prelude.{Ok, Err}
 use Rattle.numbers.specs.Bytes.{number}
 use Rattle.numbers.specs.Tests.{all_of, any_of, lowest, Each}
 use Rattle.numbers.proofs.Truth.{neither, both, both_of, either}
 use Rattle.program.specs.Names.{Name, letter, digit, word_character, paper_variable, two_characters, reserved, user_name, free_name}
-use Rattle.program.specs.Variables.{read_only, most_cells, most_labels, most_variables}
+use Rattle.program.specs.Variables.{read_only}
 use Rattle.program.specs.Code.{key, name_of}
 use Rattle.program.specs.Cells as Cells
 use Rattle.program.specs.Cells.{cell, cell_of, jump_of, no_target, operator_number, comparison_number}
 use Rattle.program.specs.Statements as Said
 use Rattle.program.specs.Statements.{Literal, Variable, Always, Compare, Statement, operands, writes, targets, compared, Set, SetWith, IC, DC, BR, CL, RT, E, H, Hold, OE, Disarm, MA, MR, SL, PR}
+use Rattle.program.specs.declared.Cell.{Cell}
 use Rattle.program.specs.declared.Operand.{Operand}
 use Rattle.program.specs.declared.Operand.TheVariants as O
 use Rattle.program.proofs.Keys.{name_key_lem, key_positive, user_word, user_two, free_word}
@@ -28,8 +30,10 @@ use Rattle.text.specs.Tokens as Paper
 use Rattle.text.specs.Tokens.{printable, uncommented, tokens}
 use Rattle.text.specs.Forms as Form
 use Rattle.text.specs.Forms.{Line, Blank, Label, Declared, Acts, Parts, no_parts, fill, by_form, statement, reading, variable_name}
-use Rattle.text.specs.Faults.{long_line, bad_form, big_literal, reserved_name, big_in, big_value, too_big, declares, declares_it, makes_cell, makes_label, makes_variable, heard, faults, repeated, too_many, undeclared, read_only_written, how_many, first_makes, unknown_variable, unknown_value, unknown_in}
-use Rattle.reading.specs.Code.{said_by, reading_of, aims_at, in_operand, placed, written, operand_with, resolved}
+use Rattle.text.specs.Faults.{long_line, bad_form, big_literal, reserved_name, big_in, big_value, too_big, declares, declares_it, makes_cell, makes_label, heard, faults, repeated, too_many, undeclared, read_only_written, first_makes, unknown_variable, unknown_value, unknown_in}
+use Rattle.reading.specs.Code.{said_by, reading_of, fault_number, faulty_by, told_by, in_declared, in_cell, aims_at, in_operand, placed, written, operand_with, resolved}
+use Rattle.reading.specs.declared.Said.{Said}
+use Rattle.reading.specs.declared.LineFault.TheVariants as E
 use Rattle.text.proofs.Words.{variable_word}
 use Rattle.text.proofs.Heard.{heard_by}
 use Rattle.text.proofs.Filled.{HoldsAt, Filled, filled, Known, Named, Sound}
@@ -83,57 +87,44 @@ fine (Acts s) n b r = (n, b)
 pub heard_fine : (l : List ℕ) → Fine (heard l)
 heard_fine l = heard_by Fine l tt (λ x e b r. fine x (subst SoundAt e (reading_sound l)) b r)
 
--- The reading of a line, by what is heard.
-module _ (l : List ℕ) where
-  pub reading_kind : (reading_of l).kind ≡ (said_by (heard l)).kind
-  unfolding reading_of
-  reading_kind = refl
+-- What a line says to others, by its reading.
+told_law : (long bad big kept : Bool) (x y : Line) → y ≡ cond (long || (bad || (big || kept))) Blank x
+    → told_by (cond long (Err E.LongLine) (cond bad (Err E.BadForm) (cond big (Err E.BigLiteral) (cond kept (Err E.ReservedName) (Ok (said_by y)))))) ≡ said_by y
+unfolding said_by
+told_law true bad big kept x y e = rw e
+told_law false true big kept x y e = rw e
+told_law false false true kept x y e = rw e
+told_law false false false true x y e = rw e
+told_law false false false false x y e = refl
 
-  pub reading_name : (reading_of l).name ≡ (said_by (heard l)).name
-  unfolding reading_of
-  reading_name = refl
+pub reading_told : (l : List ℕ) → told_by (reading_of l) ≡ said_by (heard l)
+unfolding reading_of heard
+reading_told l = told_law (long_line l) (bad_form l) (big_literal l) (reserved_name l) _ (heard l) refl
 
--- What a line makes, by its kind.
-pub cell_kind : (x : Line) → makes_cell x ≡ eqb (said_by x).kind 3
-unfolding makes_cell said_by
-cell_kind Blank = refl
-cell_kind (Label w) = refl
-cell_kind (Declared w z) = refl
-cell_kind (Acts s) = refl
-
-pub label_kind : (x : Line) → makes_label x ≡ eqb (said_by x).kind 1
-unfolding makes_label said_by
-label_kind Blank = refl
-label_kind (Label w) = refl
-label_kind (Declared w z) = refl
-label_kind (Acts s) = refl
-
-pub variable_kind : (x : Line) → makes_variable x ≡ eqb (said_by x).kind 2
-unfolding makes_variable said_by
-variable_kind Blank = refl
-variable_kind (Label w) = refl
-variable_kind (Declared w z) = refl
-variable_kind (Acts s) = refl
-
--- The name that a line declares, by its key.
--- A line that declares a name has its key; the name is the user's.
+-- What a line makes, by what it says.
+pub cell_said : (x : Line) → makes_cell x ≡ in_cell (λ c. true) (said_by x)
+unfolding makes_cell said_by in_cell
+cell_said Blank = refl
+cell_said (Label w) = refl
+cell_said (Declared w z) = refl
+cell_said (Acts s) = refl
 
 -- The lowest fault: one of the four of the line by itself, or one of the other four.
-pub lowest_fault : (a b c d : Bool) (rest : List Bool)
-    → lowest 2 (a ∷ b ∷ c ∷ d ∷ rest) ≡ cond (eqb (lowest 2 (a ∷ b ∷ c ∷ d ∷ [])) 0) (lowest 6 rest) (lowest 2 (a ∷ b ∷ c ∷ d ∷ []))
-unfolding lowest
-lowest_fault true b c d rest = refl
-lowest_fault false true c d rest = refl
-lowest_fault false false true d rest = refl
-lowest_fault false false false true rest = refl
-lowest_fault false false false false rest = refl
+lowest_fault : (a b c d : Bool) (rest : List Bool) (said : Said)
+    → lowest 2 (a ∷ b ∷ c ∷ d ∷ rest)
+    ≡ faulty_by (lowest 6 rest) (cond a (Err E.LongLine) (cond b (Err E.BadForm) (cond c (Err E.BigLiteral) (cond d (Err E.ReservedName) (Ok said)))))
+unfolding lowest faulty_by fault_number
+lowest_fault true b c d rest said = refl
+lowest_fault false true c d rest said = refl
+lowest_fault false false true d rest said = refl
+lowest_fault false false false true rest said = refl
+lowest_fault false false false false rest said = refl
 
 pub line_fault : (text before : List Line) (l : List ℕ)
     → lowest 2 (faults text before l)
-    ≡ cond (eqb (reading_of l).fault 0) (lowest 6 (repeated before (heard l) ∷ too_many before (heard l) ∷ undeclared text (heard l) ∷ read_only_written (heard l) ∷ []))
-    (reading_of l).fault
+    ≡ faulty_by (lowest 6 (repeated before (heard l) ∷ too_many before (heard l) ∷ undeclared text (heard l) ∷ read_only_written (heard l) ∷ [])) (reading_of l)
 unfolding faults reading_of
-line_fault text before l = lowest_fault (long_line l) (bad_form l) (big_literal l) (reserved_name l) _
+line_fault text before l = lowest_fault (long_line l) (bad_form l) (big_literal l) (reserved_name l) _ (said_by (heard l))
 
 -- The names of a statement, by its cell: a key of a name is neither 0 nor the target of no label.
 character_low : (c : ℕ) → T (word_character c) → c < 91
@@ -266,10 +257,9 @@ module _ (place number : Name → ℕ) where
   cell_resolved (SL x) h = ap (λ (z : Operand). cell 13 0 0 z O.Nothing 0) (read_with x h.reads.0)
   cell_resolved (PR x) h = ap (λ (z : Operand). cell 14 0 0 z O.Nothing 0) (read_with x h.reads.0)
 
--- The faults 6 to 9 of a line that is heard, by its reading.
-pub repeated_asked : (before : List Line) (x : Line) → Fine x
-    → repeated before x ≡ ((eqb (said_by x).kind 1 || eqb (said_by x).kind 2) && any_of (declares_it (name_of (said_by x).name)) before)
-unfolding repeated declares any_of said_by
+-- The faults 6 to 9 of a line that is heard, by what it says.
+pub repeated_asked : (before : List Line) (x : Line) → Fine x → repeated before x ≡ in_declared (λ w. any_of (declares_it w) before) (said_by x)
+unfolding repeated declares any_of said_by in_declared
 repeated_asked before Blank f = refl
 repeated_asked before (Label v) f =
     or-false (any_of (declares_it v) before) ∙ ap (λ (w : Name). any_of (declares_it w) before) (sym (name_key_lem v (free_word v f)))
@@ -277,19 +267,14 @@ repeated_asked before (Declared v z) f =
     or-false (any_of (declares_it v) before) ∙ ap (λ (w : Name). any_of (declares_it w) before) (sym (name_key_lem v (free_word v f.0)))
 repeated_asked before (Acts s) f = refl
 
-pub too_many_asked : (before : List Line) (x : Line)
-    → too_many before x
-    ≡ ((eqb (said_by x).kind 3 && leb most_cells (how_many makes_cell before))
-    || ((eqb (said_by x).kind 1 && leb most_labels (how_many makes_label before)) || (eqb (said_by x).kind 2 && leb most_variables (how_many makes_variable before))))
-unfolding too_many
-too_many_asked before x = rw (cell_kind x, label_kind x, variable_kind x)
+-- A test of the cell of a line: of its label, of the variable that it writes, of its operands.
+abbrev pub unknown_asked : List Line → Cell → Bool
+unknown_asked text c =
+    (aims_at c.target && not (first_makes makes_label (name_of c.target) text))
+    || ((not (eqb c.written 0) && unknown_variable text (name_of c.written)) || (in_operand (unknown_value text) c.left || in_operand (unknown_value text) c.right))
 
-pub undeclared_asked : (text : List Line) (x : Line) → Fine x
-    → let c = (said_by x).cell in
-    undeclared text x
-    ≡ ((aims_at c.target && not (first_makes makes_label (name_of c.target) text))
-    || ((not (eqb c.written 0) && unknown_variable text (name_of c.written)) || (in_operand (unknown_value text) c.left || in_operand (unknown_value text) c.right)))
-unfolding undeclared unknown_in said_by
+pub undeclared_asked : (text : List Line) (x : Line) → Fine x → undeclared text x ≡ in_cell (unknown_asked text) (said_by x)
+unfolding undeclared unknown_in said_by in_cell
 undeclared_asked text Blank f = refl
 undeclared_asked text (Label v) f = refl
 undeclared_asked text (Declared v z) f = refl
@@ -298,8 +283,8 @@ undeclared_asked text (Acts s) f =
     (ap₂ (λ (a b : Bool). a || b) (written_asked (unknown_variable text) s f.0) (operands_asked (unknown_value text) s f.0))
 
 pub read_only_asked : (x : Line) → Fine x
-    → read_only_written x ≡ (not (eqb (said_by x).cell.written 0) && read_only (paper_variable (name_of (said_by x).cell.written)))
-unfolding read_only_written said_by
+    → read_only_written x ≡ in_cell (λ c. not (eqb c.written 0) && read_only (paper_variable (name_of c.written))) (said_by x)
+unfolding read_only_written said_by in_cell
 read_only_asked Blank f = refl
 read_only_asked (Label v) f = refl
 read_only_asked (Declared v z) f = refl

@@ -1,15 +1,16 @@
 -- What the functions that read the parts of a line need of them.
 -- Assumes nothing.
 use mathlib.Core.Path.{◌≡◌, refl, sym, ap, ◌∙◌}
-use mathlib.Core.Bool.{Bool, true, false, cond, ◌&&◌}
+use mathlib.Core.Bool.{Bool, true, false, cond}
 use mathlib.Core.List.{[]}
 use Prim.Native.Nat.{ℕ, zero, suc, ◌+◌, ◌≤◌, ◌<◌}
 use native.Mathlib.Omega.{arith}
-use borrow.Author.Tests.{eqb-true, ne_eqb}
+use borrow.Author.Tests.{eqb-true, eq-eqb, ne_eqb}
 use lib.Dec.{eqb}
+use Rattle.std.specs.Prelude.{ℤ, Option, Some, None, Result, Ok, Err}
 use Rattle.numbers.specs.Bytes.{number, ascii}
 use Rattle.numbers.specs.Tests.{any_of, eq_list}
-use Rattle.numbers.proofs.Truth.{is_true, is_no, if_same, cond_no}
+use Rattle.numbers.proofs.Truth.{if_same, cond_no}
 use Rattle.program.specs.DriveWords.{drive_words}
 use Rattle.program.specs.Names.{reserved}
 use Rattle.program.specs.Code.{key, name_of}
@@ -17,10 +18,15 @@ use Rattle.program.proofs.Keys.{key_name}
 use Rattle.text.specs.Forms.{Parts}
 use Rattle.text.specs.Code.{token_at, spelt}
 use Rattle.forms.specs.Code.{no_match, fill_by, slots_of, form_for, parts_of}
-use Rattle.reading.specs.Code.{say_of, any_big, acts_by, declares_by, parts_by, read_parts, faulty, form_by, form_numbers}
+use Rattle.reading.specs.Code.{Reading, says_of, any_big, cell_by, small_of, declared_by, with_name, says_by, parts_by, read_parts, form_by, form_numbers}
 use Rattle.text.specs.declared.tokens.Tokens.{Tokens}
 use Rattle.forms.specs.declared.Match.{Match}
-use Rattle.reading.specs.declared.Reading.{Reading}
+use Rattle.program.specs.declared.Cell.{Cell}
+use Rattle.reading.specs.declared.Said.TheVariants as S
+use Rattle.reading.specs.declared.LineFault.{LineFault}
+use Rattle.reading.specs.declared.LineFault.TheVariants as E
+use Rattle.reading.specs.declared.Says.TheVariants as F
+use Rattle.reading.specs.declared.cells.Shape.{Shape}
 use Rattle.forms.proofs.Choosing.{form_below, only_form}
 
 -- The name of a key.
@@ -46,60 +52,66 @@ reserved_spelt k = pick (eqb k 0) refl
 
 -- What parts say: a literal that is too big comes first.
 module _ (form : ℕ) (p : Parts) where
-  pub read_big : any_big p ≡ true → faulty 4 ≡ read_parts form p
+  pub read_big : any_big p ≡ true → Err E.BigLiteral ≡ read_parts form p
   unfolding read_parts parts_by
   read_big e = rw e
 
-  pub read_acts : any_big p ≡ false → say_of form 0 ≡ 3 → acts_by (say_of form 1) (say_of form 2) p ≡ read_parts form p
-  unfolding read_parts parts_by
-  read_acts e f = rw (e, f)
+  pub read_acts : {o : ℕ} {h : Shape} {c : Cell} → any_big p ≡ false → says_of form ≡ F.Acts o h → c ≡ cell_by o h p → Ok (S.Acts c) ≡ read_parts form p
+  unfolding read_parts parts_by says_by
+  read_acts e f g = rw (e, f, g)
 
-  pub read_declares : any_big p ≡ false → (say_of form 0 ≡ 3 → ⊥) → declares_by (say_of form 0) p ≡ read_parts form p
-  unfolding read_parts parts_by
-  read_declares e f = rw (e, ne_eqb (say_of form 0) 3 f)
+  -- A name that is declared, or reserved.
+  pub read_label : {r : Result ℕ LineFault} → any_big p ≡ false → says_of form ≡ F.Label → r ≡ declared_by p → with_name S.Label r ≡ read_parts form p
+  unfolding read_parts parts_by says_by
+  read_label e f g = rw (e, f, g)
+
+  pub read_declared : {r : Result ℕ LineFault} {z : ℤ} → any_big p ≡ false → says_of form ≡ F.Declared → r ≡ declared_by p → z ≡ small_of p.start
+      → with_name (λ k. S.Declared k z) r ≡ read_parts form p
+  unfolding read_parts parts_by says_by
+  read_declared e f g h = rw (e, f, g, h)
 
 -- One form after the other: none but the one that is chosen can be filled, so that it decides.
 module _ (ts : Tokens) where
   abbrev chosen : ℕ
   chosen = form_for (token_at ts.at 0).key (token_at ts.at 1).key ts.count
 
-  abbrev filled : ℕ → Match
+  abbrev filled : ℕ → Option Match
   filled f = fill_by (slots_of f) ts.at no_match
 
-  abbrev fits : ℕ → Bool
-  fits f = (filled f).ok && eqb (filled f).place ts.count
+  abbrev decided : ℕ → Option Match → Reading → Reading
+  decided f o more = elim o [ Some m ↦ cond (eqb m.place ts.count) (read_parts f (parts_of m)) more | None ↦ more ]
 
   abbrev by : ℕ → Reading
-  by f = cond (fits f) (read_parts f (parts_of (filled f))) (faulty 3)
+  by f = decided f (filled f) (Err E.BadForm)
 
-  passed : (n k : ℕ) → n + k ≡ 21 → chosen < n → form_by (form_numbers k n) ts ≡ faulty 3
+  -- Where another form is chosen, this one decides nothing.
+  other : (n : ℕ) → n < 21 → (chosen ≡ n → ⊥) → (o : Option Match) → filled n ≡ o → (more : Reading) → decided n o more ≡ more
+  other n h g None f more = refl
+  other n h g (Some m) f more = cond_no (eqb m.place ts.count) _ _ (ne_eqb m.place ts.count (λ e. g (only_form ts n h m (f, e))))
+
+  passed : (n k : ℕ) → n + k ≡ 21 → chosen < n → form_by (form_numbers k n) ts ≡ Err E.BadForm
   unfolding form_by form_numbers
   passed n zero e h = refl
-  passed n (suc k) e h = pick (fits n) refl (passed (suc n) k (omega arith) (omega arith))
-    where
-      pick : (b : Bool) → fits n ≡ b → form_by (form_numbers k (suc n)) ts ≡ faulty 3
-          → cond (fits n) (read_parts n (parts_of (filled n))) (form_by (form_numbers k (suc n)) ts) ≡ faulty 3
-      pick true f more = absurd (omega (arith, only_form ts n (omega arith) f))
-      pick false f more = rw f more
+  passed n (suc k) e h = other n (omega arith) (λ g. omega (arith, g)) (filled n) refl _ ∙ passed (suc n) k (omega arith) (omega arith)
 
   reached : (n k : ℕ) → n + k ≡ 21 → n ≤ chosen → form_by (form_numbers k n) ts ≡ by chosen
   unfolding form_by form_numbers
   reached n zero e h = absurd (omega (arith, form_below (token_at ts.at 0).key (token_at ts.at 1).key ts.count))
   reached n (suc k) e h =
       if_same chosen n
-      (λ g. ap (λ (r : Reading). cond (fits n) (read_parts n (parts_of (filled n))) r) (passed (suc n) k (omega arith) (omega arith)) ∙ ap by (sym g))
-      (λ g. cond_no (fits n) _ _ (other g) ∙ reached (suc n) k (omega arith) (omega (arith, g)))
-    where
-      other : (chosen ≡ n → ⊥) → fits n ≡ false
-      other g = is_no (fits n) (λ t. g (only_form ts n (omega arith) (is_true (fits n) t)))
+      (λ g. ap (decided n (filled n)) (passed (suc n) k (omega arith) (omega arith)) ∙ ap by (sym g))
+      (λ g. other n (omega arith) g (filled n) refl _ ∙ reached (suc n) k (omega arith) (omega (arith, g)))
 
   form_law : form_by (form_numbers 21 0) ts ≡ by chosen
   form_law = reached 0 21 refl (omega arith)
 
-  pub form_fits : {f : ℕ} {m : Match} → f ≡ chosen → m ≡ filled f → (m.ok && eqb m.place ts.count) ≡ true
+  pub form_fits : {f : ℕ} {o : Option Match} {m : Match} → f ≡ chosen → o ≡ filled f → o ≡ Some m → m.place ≡ ts.count
       → read_parts f (parts_of m) ≡ form_by (form_numbers 21 0) ts
-  form_fits p q e = rw (form_law, ← p, ← q, e)
+  form_fits {f} {o} {m} p q r e = rw (form_law, ← p, ← q, r, eq-eqb m.place ts.count e)
 
-  pub form_not : {f : ℕ} {m : Match} → f ≡ chosen → m ≡ filled f → (m.ok && eqb m.place ts.count) ≡ false
-      → faulty 3 ≡ form_by (form_numbers 21 0) ts
-  form_not p q e = rw (form_law, ← p, ← q, e)
+  pub form_not : {f : ℕ} {o : Option Match} {m : Match} → f ≡ chosen → o ≡ filled f → o ≡ Some m → (m.place ≡ ts.count → ⊥)
+      → Err E.BadForm ≡ form_by (form_numbers 21 0) ts
+  form_not {f} {o} {m} p q r e = rw (form_law, ← p, ← q, r, ne_eqb m.place ts.count e)
+
+  pub form_none : {f : ℕ} {o : Option Match} → f ≡ chosen → o ≡ filled f → o ≡ None → Err E.BadForm ≡ form_by (form_numbers 21 0) ts
+  form_none p q r = rw (form_law, ← p, ← q, r)

@@ -1,7 +1,7 @@
 -- What the code reads of a line is what the paper says of it.
 -- Assumes nothing.
 use mathlib.Core.Path.{◌≡◌, refl, sym, ap, subst, ◌∙◌}
-use mathlib.Core.Bool.{Bool, true, false, cond, ◌&&◌, ◌||◌}
+use mathlib.Core.Bool.{Bool, true, false, cond, ◌||◌}
 use mathlib.Core.List.{List, [], ◌∷◌}
 use mathlib.Core.Option.{Option, none, some}
 use Prim.Native.Nat.{ℕ, ◌≤◌}
@@ -9,7 +9,9 @@ use native.Mathlib.Omega.{arith}
 use borrow.Author.Tests.{leb-true, leb-false, eq-eqb, ne_eqb}
 use lib.Dec.{eqb, leb}
 use lib.ListN.{length, take, drop}
-use Rattle.numbers.specs.Tests.{all_of, any_of, eq_list, lowest}
+use Rattle.std.specs.Prelude as Std
+use Rattle.std.specs.Prelude.{Some, None, Result, Ok, Err}
+use Rattle.numbers.specs.Tests.{all_of, any_of, eq_list}
 use Rattle.numbers.specs.Bytes.{ascii}
 use Rattle.numbers.proofs.Truth.{cond_yes, cond_no}
 use Rattle.program.specs.Names.{reserved}
@@ -21,10 +23,10 @@ use Rattle.text.specs.Forms.{Line, Blank, Label, Declared, Acts, operator_sign, 
 use Rattle.text.specs.Faults.{long_line, bad_form, big_literal, reserved_name, big_in, declares, heard}
 use Rattle.text.specs.Code.{token_at, pushed_all, spelt, packed}
 use Rattle.forms.specs.Code.{value_of, start_of, meaning, no_match, operator_by, comparison_by, parts_of, slots_of, fill_by}
-use Rattle.reading.specs.Code.{read_parts, form_by, statement_by, line_by, faulty, reading_with, said_by, reading_of}
+use Rattle.reading.specs.Code.{read_parts, form_by, statement_by, line_by, Reading, said_by, reading_of}
 use Rattle.text.specs.declared.tokens.Tokens.{Tokens}
 use Rattle.forms.specs.declared.Match.{Match}
-use Rattle.reading.specs.declared.Reading.{Reading}
+use Rattle.reading.specs.declared.LineFault.TheVariants as E
 use Rattle.text.proofs.Scanning.{code_part}
 use Rattle.text.proofs.Words.{Goods, line_good}
 use Rattle.forms.proofs.Filling.{front, finish, fill_law}
@@ -34,11 +36,11 @@ use Rattle.forms.proofs.Packed.{few_count, few_read, many_count, too_many_lem}
 
 -- The steps of `read_line`.
 module _ (l : List ℕ) where
-  pub line_long : long_line l ≡ true → faulty 2 ≡ line_by l
+  pub line_long : long_line l ≡ true → Err E.LongLine ≡ line_by l
   unfolding line_by
   line_long h = rw h
 
-  pub line_bad : long_line l ≡ false → all_of printable l ≡ false → faulty 3 ≡ line_by l
+  pub line_bad : long_line l ≡ false → all_of printable l ≡ false → Err E.BadForm ≡ line_by l
   unfolding line_by
   line_bad h e = rw (h, e)
 
@@ -52,7 +54,7 @@ module _ (l : List ℕ) where
 
 -- What is read of a line that has this to say, or no form.
 abbrev answer : Option Line → Reading
-answer o = elim o [ none ↦ faulty 3 | some x ↦ line_reading x ]
+answer o = elim o [ none ↦ Err E.BadForm | some x ↦ line_reading x ]
 
 start_parts : parts_of no_match ≡ no_parts
 unfolding spelt value_of start_of meaning name_of operator_by comparison_by operator_meant comparison_meant meant operator_sign comparison_sign ascii eq_list
@@ -63,30 +65,30 @@ module _ (ts : List Paper.Token) (g : Goods ts) (us : Tokens) (count : us.count 
   forms_law : {ns : List ℕ} {fs : List Form.Form} → Rows ns fs → form_by ns us ≡ answer (by_form fs ts)
   unfolding form_by by_form
   forms_law last = refl
-  forms_law (next {n} {f} {ns} {fs} r rs) = pick (m.ok && eqb m.place (length ts)) refl (forms_law rs)
+  forms_law (next {n} {f} {ns} {fs} r rs) = pick (fill_by (slots_of n) us.at no_match) law (forms_law rs)
     where
-      m : Match
-      m = fill_by (slots_of n) us.at no_match
-
       goes : Option Parts → Option Line
       goes o = elim o [ none ↦ by_form fs ts | some p ↦ some (f.says p) ]
 
       law : fill f.slots ts no_parts ≡ finish ts (fill_by (slots_of n) us.at no_match)
-      law = ap (fill f.slots ts) (sym start_parts) ∙ fill_law ts g us.at read r.slots no_match refl (omega arith)
+      law = ap (fill f.slots ts) (sym start_parts) ∙ fill_law ts g us.at read r.slots no_match (omega arith)
 
-      test : (m.ok && eqb m.place us.count) ≡ (m.ok && eqb m.place (length ts))
-      test = ap (λ (k : ℕ). m.ok && eqb m.place k) count
-
-      pick : (b : Bool) → (m.ok && eqb m.place (length ts)) ≡ b → form_by ns us ≡ answer (by_form fs ts)
-          → cond (m.ok && eqb m.place us.count) (read_parts n (parts_of m)) (form_by ns us) ≡ answer (goes (fill f.slots ts no_parts))
-      pick true e ih =
-          let found : fill f.slots ts no_parts ≡ some (parts_of m) = law ∙ cond_yes (m.ok && eqb m.place (length ts)) _ _ e in
-          cond_yes (m.ok && eqb m.place us.count) _ _ (test ∙ e)
+      -- Where each slot took something: by whether no token is left.
+      whole : (m : Match) (b : Bool) → eqb m.place (length ts) ≡ b → fill f.slots ts no_parts ≡ finish ts (Some m) → form_by ns us ≡ answer (by_form fs ts)
+          → cond (eqb m.place us.count) (read_parts n (parts_of m)) (form_by ns us) ≡ answer (goes (fill f.slots ts no_parts))
+      whole m true e l ih =
+          let found : fill f.slots ts no_parts ≡ some (parts_of m) = l ∙ cond_yes (eqb m.place (length ts)) _ _ e in
+          cond_yes (eqb m.place us.count) _ _ (ap (eqb m.place) count ∙ e)
           ∙ r.says (subst (HoldsAt (Filled f.slots no_parts)) found (filled f.slots ts no_parts))
           ∙ sym (ap (λ (o : Option Parts). answer (goes o)) found)
-      pick false e ih =
-          let found : fill f.slots ts no_parts ≡ none = law ∙ cond_no (m.ok && eqb m.place (length ts)) _ _ e in
-          cond_no (m.ok && eqb m.place us.count) _ _ (test ∙ e) ∙ ih ∙ sym (ap (λ (o : Option Parts). answer (goes o)) found)
+      whole m false e l ih =
+          let found : fill f.slots ts no_parts ≡ none = l ∙ cond_no (eqb m.place (length ts)) _ _ e in
+          cond_no (eqb m.place us.count) _ _ (ap (eqb m.place) count ∙ e) ∙ ih ∙ sym (ap (λ (o : Option Parts). answer (goes o)) found)
+
+      pick : (o : Std.Option Match) → fill f.slots ts no_parts ≡ finish ts o → form_by ns us ≡ answer (by_form fs ts)
+          → elim o [ Some m ↦ cond (eqb m.place us.count) (read_parts n (parts_of m)) (form_by ns us) | None ↦ form_by ns us ] ≡ answer (goes (fill f.slots ts no_parts))
+      pick (Some m) l ih = whole m (eqb m.place (length ts)) refl l ih
+      pick None l ih = ih ∙ sym (ap (λ (o : Option Parts). answer (goes o)) l)
 
 -- All tokens of a line.
 nothing_says : statement_by (packed []) ≡ answer (statement [])
@@ -113,41 +115,29 @@ statement_law (t ∷ ts) g = pick (leb (length (t ∷ ts)) 8) refl
 -- The reading, by its faults and what the line says.
 abbrev reading_from : Bool → Bool → Bool → Bool → Line → Reading
 reading_from long bad big kept x =
-    let s = said_by (cond (long || (bad || (big || kept))) Blank x) in
-    reading_with (lowest 2 (long ∷ bad ∷ big ∷ kept ∷ [])) s.kind s.name s.start s.cell
+    cond long (Err E.LongLine)
+    (cond bad (Err E.BadForm) (cond big (Err E.BigLiteral) (cond kept (Err E.ReservedName) (Ok (said_by (cond (long || (bad || (big || kept))) Blank x))))))
 
 abbrev reading_where : Bool → Option Line → Reading
 reading_where long o =
     reading_from long (elim o [ none ↦ true | some x ↦ false ]) (elim o [ none ↦ false | some x ↦ big_in x ])
     (elim o [ none ↦ false | some x ↦ any_of reserved (declares x) ]) (elim o [ none ↦ Blank | some x ↦ x ])
 
-said_whole : (x : Line) → reading_with 0 (said_by x).kind (said_by x).name (said_by x).start (said_by x).cell ≡ said_by x
-unfolding said_by
-said_whole Blank = refl
-said_whole (Label w) = refl
-said_whole (Declared w z) = refl
-said_whole (Acts s) = refl
-
-some_reading : (x : Line) (big kept : Bool) → reading_from false false big kept x ≡ cond big (faulty 4) (cond kept (faulty 5) (said_by x))
-unfolding lowest said_by
+some_reading : (x : Line) (big kept : Bool) → reading_from false false big kept x ≡ cond big (Err E.BigLiteral) (cond kept (Err E.ReservedName) (Ok (said_by x)))
 some_reading x true kept = refl
 some_reading x false true = refl
-some_reading x false false = said_whole x
+some_reading x false false = refl
 
 where_law : (o : Option Line) → answer o ≡ reading_where false o
-unfolding lowest said_by line_reading
+unfolding line_reading
 where_law none = refl
 where_law (some x) = sym (some_reading x (big_in x) (any_of reserved (declares x)))
-
-long_law : (o : Option Line) → faulty 2 ≡ reading_where true o
-unfolding lowest said_by
-long_law o = refl
 
 pub line_reads : (l : List ℕ) → line_by l ≡ reading_of l
 unfolding line_by reading_of bad_form big_literal reserved_name heard reading
 line_reads l = pick (long_line l) refl (all_of printable l) refl
   where
     pick : (x : Bool) → long_line l ≡ x → (y : Bool) → all_of printable l ≡ y → line_by l ≡ reading_where (long_line l) (reading l)
-    pick true e y f = rw e (long_law (reading l))
+    pick true e y f = rw e
     pick false e true f = rw (e, f) (statement_law (tokens (uncommented l)) (line_good l f) ∙ where_law (statement (tokens (uncommented l))))
     pick false e false f = rw (e, f) (where_law none)

@@ -2,21 +2,22 @@
 ghost use Rattle.std.specs.Prelude.{◌≡◌};
 ghost use Rattle.text.specs.Faults.{big_value};
 ghost use Rattle.forms.specs.Code.{value_of, start_of, meaning, parts_of};
-ghost use Rattle.reading.specs.Code.{small_of, operand_of, left_by, right_by, target_by, selector_by, cell_by, no_cell};
+ghost use Rattle.reading.specs.Code.{small_of, operand_of, left_by, right_by, target_by, selector_by, cell_by};
 
 use forms::{Match, Value};
 use program::{Cell, Operand, Variable};
 
 // The shape of a statement: no operand, one, two, or no target.
-pub const NO_OPERAND: u8 = 0;
-
-pub const ONE: u8 = 1;
-
-pub const TWO: u8 = 2;
-
-pub const NO_TARGET: u8 = 3;
+#[derive(Clone, Copy)]
+pub enum Shape {
+    NoOperand,
+    One,
+    Two,
+    NoTarget,
+}
 
 // A literal, 0 where it is too big for one.
+// Stays: the limit is the paper's `HIGHEST_LITERAL`, by `small_of`; `try_from` would test that of i32, which is the same number by chance.
 fn signed(negative: bool, size: u64) -> i32
     ensures { result ≡ small_of (meaning negative size) }
 {
@@ -59,47 +60,45 @@ fn operand(value: Value) -> Operand
 }
 
 // The operand on the left of a statement of this shape, on its right; and its target.
-fn left(value: Value, shape: u8) -> Operand
+fn left(value: Value, shape: Shape) -> Operand
     ensures { result ≡ left_by shape (value_of value) }
 {
-    if (shape == ONE) | (shape == TWO) {
-        return operand(value);
+    match shape {
+        Shape::NoOperand | Shape::NoTarget => Operand::Nothing,
+        Shape::One | Shape::Two => operand(value),
     }
-    Operand::Nothing
 }
 
-fn right(value: Value, shape: u8) -> Operand
+fn right(value: Value, shape: Shape) -> Operand
     ensures { result ≡ right_by shape (value_of value) }
 {
-    if shape == TWO {
-        return operand(value);
+    match shape {
+        Shape::NoOperand | Shape::One | Shape::NoTarget => Operand::Nothing,
+        Shape::Two => operand(value),
     }
-    Operand::Nothing
 }
 
-fn target(shape: u8, key: u16) -> u16
+fn target(shape: Shape, key: u16) -> u16
     ensures { result ≡ target_by shape key }
 {
-    if shape == NO_TARGET {
-        return Cell::NO_TARGET;
+    match shape {
+        Shape::NoOperand | Shape::One | Shape::Two => key,
+        Shape::NoTarget => Cell::NO_TARGET,
     }
-    key
 }
 
 // The operator or the comparison of a statement with this operation and shape, by its number.
-fn selector(parts: Match, operation: u8, shape: u8) -> u8
+fn selector(parts: Match, operation: u8, shape: Shape) -> u8
     ensures { result ≡ selector_by operation shape (parts_of parts) }
 {
-    if shape != TWO {
-        return 0;
+    match shape {
+        Shape::NoOperand | Shape::One | Shape::NoTarget => 0,
+        Shape::Two if operation == Cell::SET_WITH => forms::operator_number(parts.operator),
+        Shape::Two => forms::comparison_number(parts.comparison),
     }
-    if operation == Cell::SET_WITH {
-        return forms::operator_number(parts.operator);
-    }
-    forms::comparison_number(parts.comparison)
 }
 
-pub fn cell(parts: Match, operation: u8, shape: u8) -> Cell
+pub fn cell(parts: Match, operation: u8, shape: Shape) -> Cell
     ensures { result ≡ cell_by operation shape (parts_of parts) }
 {
     let x = parts.left;
@@ -111,18 +110,5 @@ pub fn cell(parts: Match, operation: u8, shape: u8) -> Cell
         left: left(x, shape),
         right: right(y, shape),
         target: target(shape, parts.name),
-    }
-}
-
-pub fn no_cell() -> Cell
-    ensures { result ≡ no_cell }
-{
-    Cell {
-        operation: 0,
-        written: 0,
-        selector: 0,
-        left: Operand::Nothing,
-        right: Operand::Nothing,
-        target: 0,
     }
 }

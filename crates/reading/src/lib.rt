@@ -1,11 +1,11 @@
-// What a line says, and its lowest fault from 2 to 5.
+// What a line says, or its lowest fault from 2 to 5.
 #![tactic(auto)]
 
 ghost use Rattle.std.specs.Prelude.{◌≡◌, ◌<◌};
 ghost use Rattle.forms.specs.Code.{parts_of};
-ghost use Rattle.reading.specs.Code.{say_of, faulty, acts_by, declares_by, any_big, read_parts, form_by, form_numbers, statement_by, reading_of};
+ghost use Rattle.reading.specs.Code.{says_of, declared_by, any_big, read_parts, form_by, form_numbers, statement_by, reading_of};
 
-use cells::{NO_OPERAND, NO_TARGET, ONE, TWO};
+use cells::Shape;
 use forms::Match;
 use program::{Cell, reserved};
 use text::tokens;
@@ -13,110 +13,72 @@ use text::tokens::Tokens;
 
 pub mod cells;
 
-// What a line says: its lowest fault from 2 to 5, or 0; its kind; the key of the name that it declares; a variable's start value;
-// and the cell of a statement, in which names are keys.
+// What a line says: nothing, a label by its key, a variable by its key with its start value, or a statement by its cell, in which names are keys.
 #[derive(Clone, Copy)]
-pub struct Reading {
-    pub fault: u8,
-    pub kind: u8,
-    pub name: u16,
-    pub start: i32,
-    pub cell: Cell,
+pub enum Said {
+    Blank,
+    Label(u16),
+    Declared(u16, i32),
+    Acts(Cell),
 }
 
-impl Reading {
-    pub const BLANK: u8 = 0;
-
-    pub const LABEL: u8 = 1;
-
-    pub const DECLARED: u8 = 2;
-
-    pub const ACTS: u8 = 3;
-
-    pub const LONG_LINE: u8 = 2;
-
-    pub const BAD_FORM: u8 = 3;
-
-    pub const BIG_LITERAL: u8 = 4;
-
-    pub const RESERVED_NAME: u8 = 5;
-
-    // A line that says nothing, with this fault or 0.
-    pub fn faulty(fault: u8) -> Reading
-        ensures { result ≡ faulty fault }
-    {
-        Reading {
-            fault,
-            kind: Self::BLANK,
-            name: 0,
-            start: 0,
-            cell: cells::no_cell(),
-        }
-    }
+// The faults of a line by itself, by their numbers.
+#[derive(Clone, Copy)]
+pub enum LineFault {
+    LongLine = 2,
+    BadForm = 3,
+    BigLiteral = 4,
+    ReservedName = 5,
 }
 
-// What each form says: its kind, its operation and its shape.
-const SAYS: [[u8; 3]; 21] = [
-    [Reading::LABEL, 0, 0],
-    [Reading::DECLARED, 0, 0],
-    [Reading::DECLARED, 0, 0],
-    [Reading::ACTS, Cell::SET, ONE],
-    [Reading::ACTS, Cell::SET_WITH, TWO],
-    [Reading::ACTS, Cell::IC, NO_OPERAND],
-    [Reading::ACTS, Cell::DC, NO_OPERAND],
-    [Reading::ACTS, Cell::BR, NO_OPERAND],
-    [Reading::ACTS, Cell::BR, TWO],
-    [Reading::ACTS, Cell::CL, NO_OPERAND],
-    [Reading::ACTS, Cell::CL, TWO],
-    [Reading::ACTS, Cell::RT, NO_OPERAND],
-    [Reading::ACTS, Cell::E, NO_OPERAND],
-    [Reading::ACTS, Cell::H, NO_OPERAND],
-    [Reading::ACTS, Cell::H, ONE],
-    [Reading::ACTS, Cell::OE, NO_OPERAND],
-    [Reading::ACTS, Cell::OE, NO_TARGET],
-    [Reading::ACTS, Cell::MA, ONE],
-    [Reading::ACTS, Cell::MR, ONE],
-    [Reading::ACTS, Cell::SL, ONE],
-    [Reading::ACTS, Cell::PR, ONE],
+// What a form says: a label, a variable, or a statement with this operation and shape.
+#[derive(Clone, Copy)]
+enum Says {
+    Label,
+    Declared,
+    Acts(u8, Shape),
+}
+
+// What each form says.
+const SAYS: [Says; 21] = [
+    Says::Label,
+    Says::Declared,
+    Says::Declared,
+    Says::Acts(Cell::SET, Shape::One),
+    Says::Acts(Cell::SET_WITH, Shape::Two),
+    Says::Acts(Cell::IC, Shape::NoOperand),
+    Says::Acts(Cell::DC, Shape::NoOperand),
+    Says::Acts(Cell::BR, Shape::NoOperand),
+    Says::Acts(Cell::BR, Shape::Two),
+    Says::Acts(Cell::CL, Shape::NoOperand),
+    Says::Acts(Cell::CL, Shape::Two),
+    Says::Acts(Cell::RT, Shape::NoOperand),
+    Says::Acts(Cell::E, Shape::NoOperand),
+    Says::Acts(Cell::H, Shape::NoOperand),
+    Says::Acts(Cell::H, Shape::One),
+    Says::Acts(Cell::OE, Shape::NoOperand),
+    Says::Acts(Cell::OE, Shape::NoTarget),
+    Says::Acts(Cell::MA, Shape::One),
+    Says::Acts(Cell::MR, Shape::One),
+    Says::Acts(Cell::SL, Shape::One),
+    Says::Acts(Cell::PR, Shape::One),
 ];
 
-// What a form says, by column.
-fn say_at(form: usize, column: usize) -> u8
-    requires { (form < 21) × (column < 3) }
-    ensures { result ≡ say_of form column }
-{
-    SAYS[form][column]
-}
-
-// The statement of a form that took these parts.
-fn acts(parts: Match, form: usize) -> Reading
+fn says_of(form: usize) -> Says
     requires { form < 21 }
-    ensures { result ≡ acts_by (say_of form 1) (say_of form 2) (parts_of parts) }
+    ensures { result ≡ says_of form }
 {
-    Reading {
-        fault: 0,
-        kind: Reading::ACTS,
-        name: 0,
-        start: 0,
-        cell: cells::cell(parts, say_at(form, 1), say_at(form, 2)),
-    }
+    SAYS[form]
 }
 
 // The name that the parts declare, which must not be reserved.
-fn declares(parts: Match, kind: u8) -> Reading
-    ensures { result ≡ declares_by kind (parts_of parts) }
+fn declared(parts: Match) -> Result<u16, LineFault>
+    ensures { result ≡ declared_by (parts_of parts) }
 {
     if reserved::is_reserved(parts.name) {
-        return Reading::faulty(Reading::RESERVED_NAME);
+        return Err(LineFault::ReservedName);
     }
-    let start = parts.start;
-    Reading {
-        fault: 0,
-        kind,
-        name: parts.name,
-        start: cells::start_value(start),
-        cell: cells::no_cell(),
-    }
+    Ok(parts.name)
 }
 
 fn has_big(parts: Match) -> bool
@@ -129,55 +91,58 @@ fn has_big(parts: Match) -> bool
 }
 
 // What the parts that a form took say; a literal that is too big comes before all else.
-fn read(parts: Match, form: usize) -> Reading
+fn read(parts: Match, form: usize) -> Result<Said, LineFault>
     requires { form < 21 }
     ensures { result ≡ read_parts form (parts_of parts) }
 {
     if has_big(parts) {
-        return Reading::faulty(Reading::BIG_LITERAL);
+        return Err(LineFault::BigLiteral);
     }
-    let kind = say_at(form, 0);
-    if kind == Reading::ACTS {
-        return acts(parts, form);
+    let says = says_of(form);
+    match says {
+        Says::Label => Ok(Said::Label(declared(parts)?)),
+        Says::Declared => Ok(Said::Declared(declared(parts)?, cells::start_value(parts.start))),
+        Says::Acts(operation, shape) => Ok(Said::Acts(cells::cell(parts, operation, shape))),
     }
-    declares(parts, kind)
 }
 
 // What the tokens say by the one form that they may fill.
-fn by_form(ts: Tokens) -> Reading
+fn by_form(ts: Tokens) -> Result<Said, LineFault>
     ensures { result ≡ form_by (form_numbers 21 0) ts }
 {
     let at = ts.at;
     let form = forms::form_for(at[0].key, at[1].key, ts.count);
-    let m = forms::fill(form, ts);
-    if m.ok & (m.place == ts.count) {
+    let Some(m) = forms::fill(form, ts) else {
+        return Err(LineFault::BadForm);
+    };
+    if m.place == ts.count {
         return read(m, form);
     }
-    Reading::faulty(Reading::BAD_FORM)
+    Err(LineFault::BadForm)
 }
 
 // What the tokens of a line say.
-fn statement(ts: Tokens) -> Reading
+fn statement(ts: Tokens) -> Result<Said, LineFault>
     ensures { result ≡ statement_by ts }
 {
     if ts.count == 0 {
-        return Reading::faulty(0);
+        return Ok(Said::Blank);
     }
     if ts.count == Tokens::MOST {
-        return Reading::faulty(Reading::BAD_FORM);
+        return Err(LineFault::BadForm);
     }
     by_form(ts)
 }
 
-// What a line says, and its lowest fault from 2 to 5.
-pub fn read_line(l: &[u8]) -> Reading
+// What a line says, or its lowest fault from 2 to 5.
+pub fn read_line(l: &[u8]) -> Result<Said, LineFault>
     ensures { result ≡ reading_of l.now }
 {
     if text::is_long(l) {
-        return Reading::faulty(Reading::LONG_LINE);
+        return Err(LineFault::LongLine);
     }
     if !tokens::is_printable(l) {
-        return Reading::faulty(Reading::BAD_FORM);
+        return Err(LineFault::BadForm);
     }
     let n = tokens::code_length(l);
     let code = &l[..n];

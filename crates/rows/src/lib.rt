@@ -8,23 +8,24 @@ ghost use Rattle.rows.specs.Rows.{second_place, row_of, row_at, enter};
 
 use program::names;
 
-// What the first line that declares a name makes of it: 1 a label, 2 a variable, 0 where there is no such line; the number of that line, from 1;
-// and for a label the cells, for a variable the variables in front of it.
-pub type Row = [usize; 3];
+// What a line declares a name as.
+#[derive(Clone, Copy, PartialEq, Eq)]
+pub enum Kind {
+    Label,
+    Variable,
+}
 
-pub const KIND: usize = 0;
+// What the first line that declares a name makes of it: its kind; the number of that line, from 1; and for a label the cells, for a variable
+// the variables in front of it.
+#[derive(Clone, Copy)]
+pub struct Declaration {
+    pub kind: Kind,
+    pub line: usize,
+    pub place: usize,
+}
 
-pub const LINE: usize = 1;
-
-pub const PLACE: usize = 2;
-
-pub const NOTHING: usize = 0;
-
-pub const LABEL: usize = 1;
-
-pub const VARIABLE: usize = 2;
-
-pub const NO_ROW: Row = [NOTHING, 0, 0];
+// What stands in the row of a name: nothing where no line declares it.
+pub type Row = Option<Declaration>;
 
 // How many names there are, and how many of them begin alike.
 pub const COUNT: usize = 936;
@@ -33,9 +34,6 @@ const ALIKE: usize = 36;
 
 // How many digits come before the letters.
 const DIGITS: usize = 10;
-
-// How many values a character of a key has.
-const BYTE: usize = 256;
 
 // The place of a character among those that a name may have second.
 fn second_place(character: usize) -> usize
@@ -49,26 +47,22 @@ fn second_place(character: usize) -> usize
 }
 
 // The row of the name with this key; past the last one where that is no name of two characters.
+// Stays: `row_of` (specs/Rows.antt, Q-3 2) has 936 for what is no name of two characters, and no row stands there, so `look_up` asks once.
 fn row_of(key: u16) -> usize
     ensures { result ≡ row_of (name_of key) }
 {
     if !names::has_two_characters(key) {
         return COUNT;
     }
-    let characters = key as usize;
-    let first = characters % BYTE - (b'A' as usize);
-    first * ALIKE + second_place(characters / BYTE)
+    let [first, second] = key.to_le_bytes();
+    usize::from(first - b'A') * ALIKE + second_place(usize::from(second))
 }
 
 // What stands in the row of the name with this key.
 pub fn look_up(rows: &[Row], key: u16) -> Row
     ensures { result ≡ row_at rows.now (name_of key) }
 {
-    let i = row_of(key);
-    if rows.len() <= i {
-        return NO_ROW;
-    }
-    rows[i]
+    rows.get(row_of(key)).copied().unwrap_or(None)
 }
 
 // Puts a row where the name with this key has its own, if nothing stands there yet.
@@ -79,10 +73,8 @@ pub fn enter(rows: &mut [Row], key: u16, row: Row)
     if rows.len() <= i {
         return;
     }
-    let old = rows[i];
-    let is_taken = NOTHING < old[KIND];
-    if is_taken {
-        return;
+    match rows[i] {
+        Some(_) => {}
+        None => rows[i] = row,
     }
-    rows[i] = row;
 }

@@ -20,7 +20,9 @@ use Rattle.machine.proofs.Inputs.{inputs_start}
 use Rattle.events.proofs.Written.{record_most}
 use Rattle.machine.proofs.Traces.{ended, after, course_ends, course_before}
 use Rattle.running.specs.Courses.{image_course}
-use Rattle.running.specs.Code.{SteppedBy, course_from, EndedAs}
+use Rattle.running.specs.declared.EndReason.{EndReason}
+use Rattle.running.specs.declared.EndReason.TheVariants.{PastTheLast, Stopped, BudgetUsed}
+use Rattle.running.specs.Code.{reason_number, SteppedBy, course_from, EndedAs}
 use Rattle.running.proofs.Scripts.{events_all}
 use Rattle.running.proofs.Turns.{rest, rest_past, rest_spent, rest_stopped, rest_goes, taken}
 
@@ -42,14 +44,14 @@ pub record Written (course : Course) (b₀ b : List ℕ) (at : ℕ) (left : Cour
   pub whole : after (take at b) left ≡ course
 
 -- A run that ended here.
-abbrev pub Ends : ℕ → ℕ → ℕ → Machine → Course → List ℕ → List ℕ → Type 0
+abbrev pub Ends : EndReason → ℕ → ℕ → Machine → Course → List ℕ → List ℕ → Type 0
 Ends reason t at m course b₀ b = EndedAs course (record { reason = reason; turns = t; bytes = at; machine = m }) b₀ b
 
-module _ {course : Course} {b₀ b : List ℕ} {at reason t : ℕ} {m : Machine} (w : Written course b₀ b at (ended reason t m)) where
+module _ {course : Course} {b₀ b : List ℕ} {at t : ℕ} (reason : EndReason) {m : Machine} (w : Written course b₀ b at (ended (reason_number reason) t m)) where
   all_bytes : length (take at b ++ []) ≡ at
   all_bytes = rw append-nil (length-take-le at b w.inside)
 
-  all_over : b ≡ over (after (take at b) (ended reason t m)) b₀
+  all_over : b ≡ over (after (take at b) (ended (reason_number reason) t m)) b₀
   unfolding over
   all_over = rw (append-nil, length-take-le at b w.inside, ← w.behind, take-append-drop)
 
@@ -123,11 +125,13 @@ module _ {s script : List ℕ} {t₀ last : ℕ} {b₀ : List ℕ} where
 
   module _ {course : Course} {b : List ℕ} {m : Machine} {t k at : ℕ} (u : Underway s script course t₀ last b₀ b m t k at) {cells : ℕ} (en : cells ≡ cell_count s) where
     -- Turn 6: no cell is left, or else no turn.
-    pub past_last : cells ≤ m.next → Ends 1 t at m course b₀ b
-    past_last h = ended_as (rw (goes_past s script last t k m (omega arith)) at u.written)
+    pub past_last : cells ≤ m.next → Ends PastTheLast t at m course b₀ b
+    unfolding reason_number
+    past_last h = ended_as PastTheLast (rw (goes_past s script last t k m (omega arith)) at u.written)
 
-    pub budget_used : m.next < cells → last ≤ t → Ends 3 t at m course b₀ b
-    budget_used h l = ended_as (rw (goes_spent s script last t k m (omega arith) l) at u.written)
+    pub budget_used : m.next < cells → last ≤ t → Ends BudgetUsed t at m course b₀ b
+    unfolding reason_number
+    budget_used h l = ended_as BudgetUsed (rw (goes_spent s script last t k m (omega arith) l) at u.written)
 
     -- One turn is taken, and its record is written.
     module _ (room : 12 * (last - t₀) ≤ length b₀) (h : m.next < cells) (l : t < last) {d : Turned} {n : ℕ} (er : SteppedBy s cells script t k m d n)
@@ -139,8 +143,9 @@ module _ {s script : List ℕ} {t₀ last : ℕ} {b₀ : List ℕ} where
       more left e = rw (ea, eb) (written_more (record_bytes t d.wrote) u.written fits e)
 
       -- Turn 25: the run stops after the turn.
-      pub stopped : d.stops ≡ true → Ends 2 (t + 1) at' d.machine course b₀ b'
-      stopped e = ended_as (more (ended 2 (t + 1) d.machine) (goes_stopped s script last t k m (omega arith) l (rw en at er) e))
+      pub stopped : d.stops ≡ true → Ends Stopped (t + 1) at' d.machine course b₀ b'
+      unfolding reason_number
+      stopped e = ended_as Stopped (more (ended 2 (t + 1) d.machine) (goes_stopped s script last t k m (omega arith) l (rw en at er) e))
 
       pub goes_on : d.stops ≡ false → Underway s script course t₀ last b₀ b' d.machine (t + 1) n at'
       goes_on e =

@@ -11,6 +11,8 @@ use Rattle.machine.specs.Turn.{turn}
 use Rattle.machine.specs.Run.{Course, reach, run_from, over}
 use Rattle.machine.specs.Code.{Inputs}
 use Rattle.running.specs.declared.Ended.{Ended}
+use Rattle.running.specs.declared.EndReason.{EndReason}
+use Rattle.running.specs.declared.EndReason.TheVariants.{PastTheLast, Stopped, BudgetUsed}
 use Rattle.running.specs.Courses.{cell_acts}
 use Rattle.running.specs.Visits.{visits_over}
 
@@ -36,9 +38,15 @@ pub record SteppedBy (s : List ℕ) (cells : ℕ) (script : List ℕ) (t first :
 unfoldable pub course_from : List ℕ → List ℕ → Machine → ℕ → ℕ → ℕ → Course
 course_from s script m t k last = run_from (cell_acts s) (cell_count s) (last - t) t (events_from script k) m
 
+-- Events 7, Forms 13: the number of an end reason.
+unfoldable pub reason_number : EndReason → ℕ
+reason_number PastTheLast = 1
+reason_number Stopped = 2
+reason_number BudgetUsed = 3
+
 -- A run went like this course, and its records stand in the buffer over what that held.
 pub record EndedAs (course : Course) (r : Ended) (old new : List ℕ) : Type 0 where
-  pub reason : r.reason ≡ course.reason
+  pub reason : reason_number r.reason ≡ course.reason
   pub turns : r.turns ≡ course.turns
   pub bytes : r.bytes ≡ length course.records
   pub machine : r.machine ≡ course.machine

@@ -8,28 +8,38 @@ ghost use Rattle.events.specs.Events.{bad_script, bad_events, event_count};
 ghost use Rattle.machine.specs.Code.{Inputs};
 ghost use Rattle.running.specs.Courses.{image_course};
 ghost use Rattle.running.specs.Visits.{image_visits};
-ghost use Rattle.running.specs.Code.{DueBefore, course_from, EndedAs, VisitedAs};
+ghost use Rattle.running.specs.Code.{reason_number, DueBefore, course_from, EndedAs, VisitedAs};
 
 use events::records::write_record;
 use events::script::{event_count, whole_event};
 use machine::Machine;
 
+// Why a run ends, with its number in an answer.
+#[derive(Clone, Copy)]
+pub enum EndReason {
+    // No cell is left.
+    PastTheLast = 1,
+    // An error finds no place free for the handler's call.
+    Stopped = 2,
+    // No turn is left.
+    BudgetUsed = 3,
+}
+
+impl EndReason {
+    pub fn number(self) -> u8
+        ensures { result ≡ reason_number self }
+    {
+        self as u8
+    }
+}
+
 // How a run went: why it ended, after how many turns, with how many bytes of records, and in which state.
 #[derive(Clone, Copy)]
 pub struct Ended {
-    pub reason: u8,
+    pub reason: EndReason,
     pub turns: u32,
     pub bytes: usize,
     pub machine: Machine,
-}
-
-impl Ended {
-    // Why a run ends: no cell is left, an error finds no place free for the handler's call, no turn is left.
-    pub const PAST_THE_LAST: u8 = 1;
-
-    pub const STOPPED: u8 = 2;
-
-    pub const BUDGET_USED: u8 = 3;
 }
 
 // The machine before the first turn, with the start values of the image.
@@ -38,10 +48,8 @@ fn started(image: &[u8]) -> Machine
 {
     let count = image::variable_count(image);
     let mut machine = Machine::fresh();
-    let mut k: u16 = 0;
-    while k < count {
+    for k in 0..count {
         machine = machine.with_start(k, image::start_value(image, k));
-        k += 1;
     }
     machine
 }
@@ -52,15 +60,12 @@ fn later(events: &[u8], turn: u32, first: usize) -> usize
     ensures { DueBefore events.now turn first result }
 {
     let count = event_count(events);
-    let mut k = first;
-    while k < count {
-        let event = whole_event(events, k);
-        if event.turn != turn {
+    for k in first..count {
+        if whole_event(events, k).turn != turn {
             return k;
         }
-        k += 1;
     }
-    k
+    count
 }
 
 // The run of an image from a machine on that stands before this turn, with the events from this number on to come, up to the last turn.
@@ -82,12 +87,13 @@ pub fn go_on(
     let mut turns = turn;
     let mut event = first;
     let mut bytes: usize = 0;
-    let reason: u8 = loop {
+    // Stays: Forms 7 of document 01 (docs/PAPER.md): the loop of a run breaks with the reason, so it counts its turns itself.
+    let reason = loop {
         if cells <= machine.next {
-            break Ended::PAST_THE_LAST;
+            break EndReason::PastTheLast;
         }
         if last <= turns {
-            break Ended::BUDGET_USED;
+            break EndReason::BudgetUsed;
         }
         let left = later(events, turns, event);
         let cell = image::cell_at(image, machine.next);
@@ -97,14 +103,14 @@ pub fn go_on(
         event = left;
         turns += 1;
         if turned.stops {
-            break Ended::STOPPED;
+            break EndReason::Stopped;
         }
     };
     Ended {
-        reason: reason,
-        turns: turns,
-        bytes: bytes,
-        machine: machine,
+        reason,
+        turns,
+        bytes,
+        machine,
     }
 }
 
@@ -120,15 +126,15 @@ pub fn course(image: &[u8], events: &[u8], budget: u32, records: &mut [u8]) -> E
 pub const PLACE_BYTES: usize = 2;
 
 // The places of an image's run: the machine's next cell at each turn, one behind the other to the front of the buffer. How many turns there were is handed back.
+// Stays: its loop and that of `go_on` are no plainer as one: a turn is three calls in both, and one function for them would take six parameters and hand back two values.
 pub fn visit(image: &[u8], events: &[u8], budget: u32, visits: &mut [u8]) -> usize
     requires { (bad_script events.now ≡ false) × (bad_events events.now ≡ false) × (2 * budget ≤ length visits.old) }
     ensures { VisitedAs (image_visits image.now events.now budget) result visits.old visits.new }
 {
     let cells = image::cell_count(image);
     let mut machine = started(image);
-    let mut taken: u32 = 0;
     let mut event: usize = 0;
-    while taken < budget {
+    for taken in 0..budget {
         if cells <= machine.next {
             return taken as usize;
         }
@@ -139,10 +145,9 @@ pub fn visit(image: &[u8], events: &[u8], budget: u32, visits: &mut [u8]) -> usi
         let turned = machine.turn(cell, cells, events, event, rest);
         machine = turned.machine;
         event = rest;
-        taken += 1;
         if turned.stops {
-            return taken as usize;
+            return (taken as usize) + 1;
         }
     }
-    taken as usize
+    budget as usize
 }

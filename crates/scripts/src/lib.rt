@@ -4,54 +4,50 @@
 use events::records::write_record;
 use events::script::SIZE;
 use events::{Event, Record};
+use std::iter::Zip;
+use std::num::TryFromIntError;
+use std::ops::RangeInclusive;
+use text::LinesLeft;
 
-// What was read of a script: how many bytes its events take; or the first line with a fault, from 1, and the fault.
-#[derive(Clone, Copy)]
-pub struct Script {
-    pub length: usize,
-    pub line: usize,
-    pub fault: u8,
+// What can be wrong with a line, by its number in the table of words.
+#[derive(Clone, Copy, Debug, PartialEq, Eq)]
+pub enum Fault {
+    BadForm = 1,
+    BigNumber = 2,
 }
 
-// What can be wrong with a line.
-pub const NO_FAULT: u8 = 0;
-
-pub const BAD_FORM: u8 = 1;
-
-pub const BIG_NUMBER: u8 = 2;
-
-// What a line says: an event of kind 0 is none.
-#[derive(Clone, Copy)]
-struct Said {
-    fault: u8,
-    turn: u32,
-    event: Record,
+// The first line of a script with a fault, from 1, and the fault.
+#[derive(Clone, Copy, Debug, PartialEq, Eq)]
+pub struct Faulty {
+    pub line: usize,
+    pub fault: Fault,
 }
 
 // A whole number: its sign, and its size.
-#[derive(Clone, Copy)]
+// Stays: the programs refuse `-0` as a turn (`turn_of`) and take it as a value, and no signed number tells it from 0.
+#[derive(Clone, Copy, Debug, PartialEq, Eq)]
 pub struct Number {
-    pub fault: u8,
     pub negative: bool,
     pub size: u64,
 }
 
-// The kinds of event with more than two words.
-const INPUT: u32 = Event::INPUT as u32;
+// The kinds of event, by the numbers that they have in events and in the table of words.
+#[derive(Clone, Copy, PartialEq, Eq)]
+enum Kind {
+    Input = 1,
+    Arrival = 2,
+    Place = 3,
+}
 
-const PLACE: u32 = Event::PLACE as u32;
+// What a line says: an event, and its turn.
+#[derive(Clone, Copy)]
+struct Said {
+    turn: u32,
+    event: Record,
+}
 
 // The longest run of digits that is read as a number.
 const MOST_DIGITS: usize = 10;
-
-// What the fields of an event can hold: the turn, the number, and the size of a value with and without a minus.
-const MOST_TURN: u64 = 4294967295;
-
-const MOST_NUMBER: u64 = 255;
-
-const MOST_BELOW: u64 = 2147483648;
-
-const MOST_ABOVE: u64 = 2147483647;
 
 // How many words the longest event has.
 const MOST_WORDS: usize = 4;
@@ -59,119 +55,93 @@ const MOST_WORDS: usize = 4;
 // How many numbers 32 digits can write.
 const WRAP: u64 = 4294967296;
 
+// A number that its field cannot hold.
+impl From<TryFromIntError> for Fault {
+    fn from(_: TryFromIntError) -> Fault {
+        Fault::BigNumber
+    }
+}
+
 // Bytes with a 0 among them are no script: every event has zeros in it, and no line has.
 pub fn is_bytes(bytes: &[u8]) -> bool {
-    let mut i: usize = 0;
-    while i < bytes.len() {
-        if bytes[i] == 0 {
-            return true;
-        }
-        i += 1;
-    }
-    false
+    bytes.contains(&0)
 }
 
 impl Number {
-    fn bad(fault: u8) -> Number {
-        Number {
-            fault,
-            negative: false,
-            size: 0,
-        }
-    }
-
     // The number as the value of an event, where it fits into 32 digits.
     pub fn value(self) -> i32 {
-        let size = self.size % WRAP;
+        let value = numbers::signed((self.size % WRAP) as u32);
         if self.negative {
-            return numbers::signed(((WRAP - size) % WRAP) as u32);
+            return value.wrapping_neg();
         }
-        numbers::signed(size as u32)
+        value
     }
 
-    // The fault of a number that has to be at most this large, or is a value of an event.
-    fn fault_over(self, most: u64) -> u8 {
-        if self.fault != NO_FAULT {
-            return self.fault;
-        }
+    // Its size, where it has no sign.
+    fn unsigned(self) -> Result<u64, Fault> {
         if self.negative {
-            return BAD_FORM;
+            return Err(Fault::BadForm);
         }
-        if most < self.size {
-            return BIG_NUMBER;
-        }
-        NO_FAULT
+        Ok(self.size)
     }
 
-    fn fault_of_value(self) -> u8 {
-        if self.negative {
-            if MOST_BELOW < self.size {
-                return BIG_NUMBER;
-            }
-            return self.fault;
-        }
-        self.fault_over(MOST_ABOVE)
+    // The number, where it is a value of an event.
+    fn fitting(self) -> Result<i32, Fault> {
+        let size = i64::try_from(self.size)?;
+        let number = if self.negative { -size } else { size };
+        Ok(i32::try_from(number)?)
     }
 }
 
 // The number that digits write.
-pub fn digits(word: &[u8]) -> Number {
-    if word.len() == 0 {
-        return Number::bad(BAD_FORM);
+// Stays: the programs refuse `+1` as bad form and 11 digits as a big number (`Fault`), and std's `parse` takes both.
+pub fn digits(word: &[u8]) -> Result<u64, Fault> {
+    if word.is_empty() {
+        return Err(Fault::BadForm);
     }
     let mut size: u64 = 0;
-    let mut i: usize = 0;
-    while i < word.len() {
-        if !program::names::is_digit(word[i]) {
-            return Number::bad(BAD_FORM);
+    for (before, digit) in word.iter().enumerate() {
+        if !digit.is_ascii_digit() {
+            return Err(Fault::BadForm);
         }
-        if MOST_DIGITS <= i {
-            return Number::bad(BIG_NUMBER);
+        if MOST_DIGITS <= before {
+            return Err(Fault::BigNumber);
         }
-        size = with_digit(size, word[i]);
-        i += 1;
+        size = with_digit(size, *digit);
     }
-    Number {
-        fault: NO_FAULT,
-        negative: false,
-        size,
-    }
+    Ok(size)
 }
 
 // The last ten digits of a number with one more.
 fn with_digit(size: u64, digit: u8) -> u64 {
-    if digit < b'0' {
-        return size;
-    }
-    size % 1000000000 * 10 + ((digit - b'0') as u64)
+    size % 1000000000 * 10 + (digit % 16) as u64
 }
 
 // The number that a word is: digits, perhaps behind a minus.
-pub fn number_of(word: &[u8]) -> Number {
-    if word.len() == 0 {
-        return Number::bad(BAD_FORM);
-    }
-    if word[0] != b'-' {
-        return digits(word);
-    }
-    let size = digits(&word[1..]);
-    Number {
-        fault: size.fault,
-        negative: size.fault == NO_FAULT,
-        size: size.size,
+pub fn number_of(word: &[u8]) -> Result<Number, Fault> {
+    match word {
+        [b'-', behind @ ..] => Ok(Number {
+            negative: true,
+            size: digits(behind)?,
+        }),
+        _ => Ok(Number {
+            negative: false,
+            size: digits(word)?,
+        }),
     }
 }
 
-fn faulty(fault: u8) -> Said {
-    Said {
-        fault,
-        turn: 0,
-        event: Record {
-            kind: 0,
-            number: 0,
-            value: 0,
-        },
-    }
+// The turn, the number of an input, and the value that a word gives.
+fn turn_of(word: &[u8]) -> Result<u32, Fault> {
+    Ok(u32::try_from(number_of(word)?.unsigned()?)?)
+}
+
+fn input_of(word: &[u8]) -> Result<u8, Fault> {
+    Ok(u8::try_from(number_of(word)?.unsigned()?)?)
+}
+
+fn value_of(word: &[u8]) -> Result<i32, Fault> {
+    number_of(word)?.fitting()
 }
 
 // A word of a line by its number, from 0; empty where there are fewer.
@@ -179,100 +149,79 @@ fn word<'a>(line: &'a [u8], number: usize) -> &'a [u8] {
     parts::word_at(line, parts::word_place(line, number))
 }
 
-// The kind of the event on a line, by its second word; 0 where that names none.
-fn kind_on(line: &[u8]) -> u32 {
-    words::number_for(words::KIND_OF_EVENT, word(line, 1))
-}
+impl Kind {
+    const ALL: [Kind; 3] = [Kind::Input, Kind::Arrival, Kind::Place];
 
-// How many words an event of a kind has.
-fn word_count(kind: u32) -> usize {
-    match kind {
-        INPUT => 4,
-        PLACE => 3,
-        _ => 2,
+    // The kind of the event on a line, by its second word.
+    fn on(line: &[u8]) -> Option<Kind> {
+        let name = word(line, 1);
+        Kind::ALL.into_iter().find(|kind| words::means(words::Kind::Event, *kind as u32, name))
+    }
+
+    // How many words an event of the kind has.
+    fn word_count(self) -> usize {
+        match self {
+            Kind::Input => 4,
+            Kind::Arrival => 2,
+            Kind::Place => 3,
+        }
     }
 }
 
 // The fault of a word by its number on a line with an event of this kind.
-fn fault_of_word(kind: u32, number: usize, word: &[u8]) -> u8 {
-    if number == 0 {
-        return number_of(word).fault_over(MOST_TURN);
+fn fault_of_word(kind: Option<Kind>, number: usize, word: &[u8]) -> Option<Fault> {
+    match (kind, number) {
+        (_, 0) => turn_of(word).err(),
+        (Some(_), 1) => None,
+        (Some(Kind::Input), 2) => input_of(word).err(),
+        (Some(Kind::Input), 3) => value_of(word).err(),
+        (Some(Kind::Place), 2) => value_of(word).err(),
+        _ => Some(Fault::BadForm),
     }
-    if (kind == 0) | (word_count(kind) <= number) {
-        return BAD_FORM;
-    }
-    if number == 1 {
-        return NO_FAULT;
-    }
-    if (number == 2) & (kind == INPUT) {
-        return number_of(word).fault_over(MOST_NUMBER);
-    }
-    number_of(word).fault_of_value()
 }
 
-// The first fault of the words that an event of this kind has; a word more is a fault of the line's form, as no kind is.
-fn fault_on(line: &[u8], kind: u32) -> u8 {
-    let count = word_count(kind);
-    if (kind == 0) | (word(line, count).len() != 0) {
-        return BAD_FORM;
-    }
-    for number in 0..count {
-        let fault = fault_of_word(kind, number, word(line, number));
-        if fault != NO_FAULT {
-            return fault;
-        }
-    }
-    NO_FAULT
-}
-
-// The event of a kind on a line without a fault.
-fn event_on(line: &[u8], kind: u32) -> Record {
-    let third = number_of(word(line, 2));
+// The event of a kind that a line gives with its words behind the second.
+fn event_on(line: &[u8], kind: Kind) -> Result<Record, Fault> {
+    let mut event = Record {
+        kind: kind as u8,
+        number: 0,
+        value: 0,
+    };
     match kind {
-        INPUT => Record {
-            kind: Event::INPUT,
-            number: (third.size % WRAP) as u32,
-            value: number_of(word(line, 3)).value(),
-        },
-        PLACE => Record {
-            kind: Event::PLACE,
-            number: 0,
-            value: third.value(),
-        },
-        _ => Record {
-            kind: Event::ARRIVAL,
-            number: 0,
-            value: 0,
-        },
+        Kind::Input => {
+            event.number = input_of(word(line, 2))? as u32;
+            event.value = value_of(word(line, 3))?;
+        }
+        Kind::Arrival => {}
+        Kind::Place => event.value = value_of(word(line, 2))?,
     }
+    Ok(event)
 }
 
-// What a line without its comment says.
-fn say(line: &[u8]) -> Said {
+// What a line without its comment says, if it says anything. The first of its words with a fault counts, but a word too many, as no kind, is a
+// fault of the line's form.
+fn say(line: &[u8]) -> Result<Option<Said>, Fault> {
     let first = word(line, 0);
-    if first.len() == 0 {
-        return faulty(NO_FAULT);
+    if first.is_empty() {
+        return Ok(None);
     }
-    let kind = kind_on(line);
-    let fault = fault_on(line, kind);
-    if fault != NO_FAULT {
-        return faulty(fault);
+    let kind = Kind::on(line).ok_or(Fault::BadForm)?;
+    if !word(line, kind.word_count()).is_empty() {
+        return Err(Fault::BadForm);
     }
-    let turn = number_of(first);
-    Said {
-        fault,
-        turn: (turn.size % WRAP) as u32,
-        event: event_on(line, kind),
-    }
+    Ok(Some(Said {
+        turn: turn_of(first)?,
+        event: event_on(line, kind)?,
+    }))
 }
 
 // The place of the first word of a line, without its comment, that has this fault; of its first word where none has.
-pub fn place_of_fault(line: &[u8], fault: u8) -> usize {
-    let kind = kind_on(line);
+pub fn place_of_fault(line: &[u8], fault: Fault) -> usize {
+    let kind = Kind::on(line);
     for number in 0..MOST_WORDS + 1 {
         let at = parts::word_place(line, number);
         let word = parts::word_at(line, at);
-        if (word.len() != 0) & (fault_of_word(kind, number, word) == fault) {
+        if !word.is_empty() && fault_of_word(kind, number, word) == Some(fault) {
             return at;
         }
     }
@@ -280,6 +229,7 @@ pub fn place_of_fault(line: &[u8], fault: u8) -> usize {
 }
 
 // Writes an event behind those before it. What there is no room for is left out: a script that fills the room has more events than it may.
+// Stays: `write_record` of events takes a buffer and a place in it, by its contract, and the buffer is lent by who reads the events.
 fn keep(events: &mut [u8], length: usize, said: Said) -> usize {
     if events.len() < SIZE {
         return length;
@@ -290,82 +240,51 @@ fn keep(events: &mut [u8], length: usize, said: Said) -> usize {
     write_record(events, length, said.turn, said.event)
 }
 
-// Turns a script into the bytes of its events.
-fn translate(text: &[u8], events: &mut [u8]) -> Script {
+// The lines of a text with their numbers, from 1. A text has no more lines than bytes.
+fn numbered(text: &[u8]) -> Zip<RangeInclusive<usize>, LinesLeft<'_>> {
+    (1..=text.len()).zip(text::lines_of(text))
+}
+
+// Turns a script into the bytes of its events, and answers how many they take.
+fn translate(text: &[u8], events: &mut [u8]) -> Result<usize, Faulty> {
     let mut kept: usize = 0;
-    let mut line: usize = 1;
-    let mut at: usize = 0;
-    while at < text.len() {
-        let span = text::line_at(text, at);
-        let said = say(parts::uncommented(parts::between(text, at, span.end)));
-        if said.fault != NO_FAULT {
-            return Script {
-                length: 0,
-                line,
-                fault: said.fault,
-            };
+    for (number, line) in numbered(text) {
+        match say(parts::uncommented(line)) {
+            Ok(Some(said)) => kept = keep(events, kept, said),
+            Ok(None) => {}
+            Err(fault) => return Err(Faulty {
+                line: number,
+                fault,
+            }),
         }
-        kept = keep(events, kept, said);
-        line += 1;
-        at = span.next;
     }
-    Script {
-        length: kept,
-        line: 0,
-        fault: NO_FAULT,
-    }
+    Ok(kept)
 }
 
 // Copies bytes, as many as there is room for.
 fn copy(from: &[u8], events: &mut [u8]) -> usize {
-    let mut i: usize = 0;
-    while i < from.len() {
-        if events.len() <= i {
-            return i;
-        }
-        numbers::write(events, i, 1, numbers::read(from, i, 1));
-        i += 1;
-    }
-    i
+    let count = from.len().min(events.len());
+    events[..count].copy_from_slice(&from[..count]);
+    count
 }
 
-// The bytes of the events in a file, which holds them or is a script.
-pub fn read(file: &[u8], events: &mut [u8]) -> Script {
+// The bytes of the events in a file, which holds them or is a script: how many they take.
+pub fn read(file: &[u8], events: &mut [u8]) -> Result<usize, Faulty> {
     if !is_bytes(file) {
         return translate(file, events);
     }
-    Script {
-        length: copy(file, events),
-        line: 0,
-        fault: NO_FAULT,
-    }
+    Ok(copy(file, events))
 }
 
-// How many events there are with those of one line more.
-fn counted(events: usize, said: Said) -> usize {
-    if said.event.kind == 0 {
-        return events;
-    }
-    if events < usize::MAX {
-        return events + 1;
-    }
-    events
+// Whether a line of a script gives an event.
+fn has_event(line: &[u8]) -> bool {
+    matches!(say(parts::uncommented(line)), Ok(Some(_)))
 }
 
-// The line of a script, from 1, that has the event with this number, from 0; 0 where there is none.
-pub fn line_of_event(text: &[u8], number: usize) -> usize {
-    let mut events: usize = 0;
-    let mut line: usize = 1;
-    let mut at: usize = 0;
-    while at < text.len() {
-        let span = text::line_at(text, at);
-        let said = say(parts::uncommented(parts::between(text, at, span.end)));
-        if (said.event.kind != 0) & (events == number) {
-            return line;
-        }
-        events = counted(events, said);
-        line += 1;
-        at = span.next;
-    }
-    0
+// The line of a script, from 1, that has the event with this number, from 0.
+pub fn line_of_event(text: &[u8], number: usize) -> Option<usize> {
+    let (line, _) = numbered(text)
+        .filter(|(_, line)| has_event(line))
+        .nth(number)?;
+    Some(line)
 }

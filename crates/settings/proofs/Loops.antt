@@ -7,12 +7,12 @@ use Prim.Native.Nat.{ℕ, suc, ◌+◌, ◌-◌, ◌/◌, ◌%◌, ◌^◌, ◌�
 use native.Mathlib.Omega.{arith}
 use borrow.Author.Tests.{eqb-true, ne_eqb}
 use lib.Dec.{T, eqb, ltb, eqb_refl}
-use lib.IntN.{ℤ, pos}
+use lib.IntN.{ℤ}
 use lib.ListN.{length, take, drop}
 use Rattle.numbers.specs.Bytes.{Bytes, bytes, number, field}
-use Rattle.numbers.specs.Tests.{eq_z, eq_list, any_of, listed}
+use Rattle.numbers.specs.Tests.{eq_list, any_of, listed}
 use Rattle.numbers.proofs.Laws.{there_and_back, bytes_field}
-use Rattle.numbers.proofs.Tests.{eq_z_refl, eq_list_refl, eq_list_eq}
+use Rattle.numbers.proofs.Tests.{eq_list_refl, eq_list_eq}
 use Rattle.numbers.proofs.Truth.{is_true, same_test}
 use Rattle.settings.specs.Layout.{trailer, has_trailer, edition_of, pair_at, pairs_of, good_pair, good_pairs, laid_out}
 use Rattle.settings.specs.Sets.{by_place, under, by_pairs, has, names_in, finished, all_in, in_ranges}
@@ -68,28 +68,30 @@ module _ (s : List ℕ) where
   good_end count i last h = rw (rest_end count i h)
 
   -- The pair at hand is the one that is sought, or it is not.
-  module _ (count i v : ℕ) (given : ℤ) {p : Pair} {b : Bool} (h : i < count) (e : p ≡ pair_at s i) (f : b ≡ eqb p.number v) where
-    pub under_here : b ≡ true → under v (rest count i) given ≡ p.value
+  module _ (count i v : ℕ) {p : Pair} {b : Bool} (h : i < count) (e : p ≡ pair_at s i) (f : b ≡ eqb p.number v) where
+    pub under_here : (given : ℤ) → b ≡ true → under v (rest count i) given ≡ p.value
     unfolding under
-    under_here t = rw (rest_more count i h, ← e, ← f, t)
+    under_here given t = rw (rest_more count i h, ← e, ← f, t)
 
-    pub under_next : b ≡ false → under v (rest count i) given ≡ under v (rest count (i + 1)) given
+    pub under_next : (given : ℤ) → b ≡ false → under v (rest count i) given ≡ under v (rest count (i + 1)) given
     unfolding under
-    under_next t = rw (rest_more count i h, ← e, ← f, t)
+    under_next given t = rw (rest_more count i h, ← e, ← f, t)
+
+    pub has_here : b ≡ true → has v (rest count i) ≡ true
+    unfolding has any_of
+    has_here t = rw (rest_more count i h, ← e, ← f, t)
+
+    pub has_next : b ≡ false → has v (rest count i) ≡ has v (rest count (i + 1))
+    unfolding has any_of
+    has_next t = rw (rest_more count i h, ← e, ← f, t)
 
   pub under_end : (count i v : ℕ) (given : ℤ) → count ≤ i → under v (rest count i) given ≡ given
   unfolding under
   under_end count i v given h = rw (rest_end count i h)
 
--- A pair with this number is there exactly if what is shown does not go by what was given.
-pub has_tested : (v : ℕ) (ps : List Pair) → eq_z (under v ps (pos 0)) (under v ps (pos 1)) ≡ has v ps
-unfolding under has any_of eq_z
-has_tested v [] = refl
-has_tested v (p ∷ ps) = step (eqb p.number v) (has_tested v ps) where
-  step : (t : Bool) → eq_z (under v ps (pos 0)) (under v ps (pos 1)) ≡ has v ps
-      → eq_z (cond t p.value (under v ps (pos 0))) (cond t p.value (under v ps (pos 1))) ≡ (t || has v ps)
-  step true e = eq_z_refl p.value
-  step false e = e
+  pub has_end : (count i v : ℕ) → count ≤ i → has v (rest count i) ≡ false
+  unfolding has any_of
+  has_end count i v h = rw (rest_end count i h)
 
 -- The file as it is laid out, by its trailer and its edition.
 module _ (s : List ℕ) {h : Bool} {e : ℕ} (t : h ≡ has_trailer s (length s - 8) e) (f : e ≡ edition_of s) where

@@ -1,7 +1,7 @@
 -- What the two readers and the writer of settings files promise, with no condition in front: one equation for the whole answer, and one for the lent file as the
 -- writer returns.
 -- Assumes nothing.
-use Rattle.std.specs.Prelude.{◌≡◌, Bool, cond, ◌&&◌, ◌||◌, not, List, [], ◌∷◌, ◌++◌, ℕ, ◌-◌, eqb, leb, ltb, ℤ, length, drop}
+use Rattle.std.specs.Prelude.{Result, Ok, Err, ◌≡◌, Bool, cond, ◌&&◌, ◌||◌, not, List, [], ◌∷◌, ◌++◌, ℕ, ◌-◌, eqb, leb, ltb, ℤ, length, drop}
 use Rattle.numbers.specs.Tests.{lowest, any_of}
 use Rattle.program.specs.Variables.{in_range}
 use Rattle.settings.specs.Layout.{has_trailer, edition_of, laid_out, file_of}
@@ -11,6 +11,8 @@ use Rattle.settings.specs.declared.Settings.{Settings}
 use Rattle.settings.specs.declared.Chosen.{Chosen}
 use Rattle.settings.specs.declared.Shown.{Shown}
 use Rattle.settings.specs.declared.Written.{Written}
+use Rattle.settings.specs.declared.Refusal.{Refusal}
+use Rattle.settings.specs.declared.Refusal.TheVariants.{BadLength, UnknownEdition, BadLayout, OutOfRange, ShortBuffer}
 
 -- Q-5 8: the refusals of a reader that knows the editions 1 to `last`, as a table, 41 and up: the length, the edition, how the file is laid out, the finished set.
 unfoldable pub read_faults : ℕ → List ℕ → Settings → List Bool
@@ -26,6 +28,18 @@ read_number last s given = lowest 41 (read_faults last s given)
 
 abbrev pub shown : ℕ → Settings → Shown
 shown number settings = record { settings = settings; number = number }
+
+-- Q-5 8: the number of each refusal, and the answer of a reader that has it: with what was given.
+abbrev pub refusal_number : Refusal → ℕ
+refusal_number BadLength = 41
+refusal_number UnknownEdition = 42
+refusal_number BadLayout = 43
+refusal_number OutOfRange = 44
+refusal_number ShortBuffer = 45
+
+abbrev pub shown_answer : Settings → Result Settings Refusal → Shown
+shown_answer given (Ok settings) = shown 0 settings
+shown_answer given (Err refusal) = shown (refusal_number refusal) given
 
 -- Q-5 6, Q-5 7: 0 and the finished set, all of it; or the refusal, and nothing but what was given.
 unfoldable pub shown_by : ℕ → List ℕ → Settings → Shown
@@ -66,6 +80,11 @@ write_number g which room = lowest 44 (write_faults g which room)
 
 abbrev pub written : ℕ → ℕ → Written
 written number long = record { length = long; number = number }
+
+-- The answer of the writer, by the length of the file or by the refusal.
+abbrev pub written_answer : Result ℕ Refusal → Written
+written_answer (Ok long) = written 0 long
+written_answer (Err refusal) = written (refusal_number refusal) 0
 
 -- 0 and the length of the file; or the refusal, and no length.
 unfoldable pub written_as : Settings → Chosen → ℕ → Written

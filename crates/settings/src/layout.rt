@@ -32,7 +32,7 @@ const EDITION: usize = 4;
 fn from_end(s: &[u8], n: usize) -> usize
     ensures { result ≡ length s.now - n }
 {
-    if s.len() < n { 0 } else { s.len() - n }
+    s.len().saturating_sub(n)
 }
 
 // The edition that a file says it has.
@@ -46,7 +46,7 @@ pub fn edition(s: &[u8]) -> u16
 pub fn trailer(edition: u16, whole: u16) -> u64
     ensures { bytes 8 result ≡ trailer edition whole }
 {
-    numbers::eight_bytes(0, (edition as u32) + 65536 * (whole as u32))
+    numbers::eight_bytes(0, u32::from(edition) + 65536 * u32::from(whole))
 }
 
 // The trailer of this edition and of the file's length stands at a place.
@@ -80,8 +80,7 @@ pub fn pair_at(s: &[u8], i: usize) -> Pair
 pub fn pair_count(s: &[u8]) -> usize
     ensures { result ≡ length s.now / 8 - 1 }
 {
-    let eights = s.len() / PAIR;
-    if eights == 0 { 0 } else { eights - 1 }
+    (s.len() / PAIR).saturating_sub(1)
 }
 
 impl Pair {
@@ -89,7 +88,7 @@ impl Pair {
     pub fn is_good(self) -> bool
         ensures { result ≡ good_pair self }
     {
-        let v = self.number as u32;
+        let v = u32::from(self.number);
         ((Variable::A <= v) & (v <= Variable::VM)) & (self.zeros == 0)
     }
 
@@ -97,7 +96,7 @@ impl Pair {
     pub fn is_of(self, v: u32) -> bool
         ensures { result ≡ eqb self.number v }
     {
-        self.number as u32 == v
+        u32::from(self.number) == v
     }
 
     // Good, and its number above the last one.
@@ -114,14 +113,12 @@ fn are_good(s: &[u8]) -> bool
 {
     let count = pair_count(s);
     let mut last = 0;
-    let mut i = 0;
-    while i < count {
+    for i in 0..count {
         let p = pair_at(s, i);
         if !p.is_next(last) {
             return false;
         }
         last = p.number;
-        i += 1;
     }
     true
 }

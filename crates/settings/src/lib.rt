@@ -1,14 +1,15 @@
 // Settings files: A, D, VI and VM of a drive, in two editions, read and written.
 #![tactic(auto)]
 
-ghost use Rattle.std.specs.Prelude.{◌≡◌, cond, ◌+◌, ◌≤◌, length};
+ghost use Rattle.std.specs.Prelude.{◌≡◌, cond, ◌+◌, ◌≤◌, ℤ, is_some, length};
+ghost use Rattle.std.specs.Option.{unwrap_or};
 ghost use mathlib.Core.List.{flat_map};
 ghost use Rattle.std.proofs.lemmas.List.Edits.{sets};
 ghost use Rattle.numbers.specs.Tests.{any_of};
 ghost use Rattle.program.specs.Variables.{in_range, range_of};
 ghost use Rattle.settings.specs.Layout.{pairs_of, pair_bytes, file_of};
 ghost use Rattle.settings.specs.Sets.{by_place, under, by_pairs, has, names_in, finished, all_in, fresh_settings};
-ghost use Rattle.settings.specs.Calls.{shown, shown_by, Reads, ReadsFirst, chosen_pair, chosen_pairs, outside, written, Writes};
+ghost use Rattle.settings.specs.Calls.{shown_answer, shown_by, Reads, ReadsFirst, chosen_pair, chosen_pairs, outside, written_answer, Writes};
 
 use program::Variable;
 
@@ -24,6 +25,7 @@ pub struct Settings {
 }
 
 // Some of the four names.
+// Stays: `Writes` and `Request5` (specs/) speak of the flags beside the values, and of a value whose flag is not set no clause speaks.
 #[derive(Clone, Copy)]
 pub struct Chosen {
     pub a: bool,
@@ -33,6 +35,7 @@ pub struct Chosen {
 }
 
 // What a reader shows: the finished set, and the number 0; or what was given, and the refusal.
+// Stays: `Request5` (specs/Requests.antt) speaks of both fields of each answer, over any reader; `read_up_to` has the Result.
 #[derive(Clone, Copy)]
 pub struct Shown {
     pub settings: Settings,
@@ -40,6 +43,7 @@ pub struct Shown {
 }
 
 // Number 0, and the length of the file that was written; or the refusal.
+// Stays: `Request5` (specs/Requests.antt) speaks of both fields of each answer, over any writer; `write_file` has the Result.
 #[derive(Clone, Copy)]
 pub struct Written {
     pub length: usize,
@@ -55,6 +59,7 @@ pub struct Pair {
 }
 
 // The editions.
+// Stays: two bytes of a file, in which any may stand: `edition` (specs/Layout.antt) reads them.
 pub const BY_PLACE: u16 = 1;
 
 pub const BY_PAIR: u16 = 2;
@@ -67,16 +72,15 @@ pub const LONGEST: usize = 40;
 // One more than VM can be: below it VI may have any velocity.
 pub const OVER_VM: i32 = (Variable::HIGHEST_VELOCITY + 1) as i32;
 
-// The refusals.
-const BAD_LENGTH: u8 = 41;
-
-const UNKNOWN_EDITION: u8 = 42;
-
-const BAD_LAYOUT: u8 = 43;
-
-pub const OUT_OF_RANGE: u8 = 44;
-
-const SHORT_BUFFER: u8 = 45;
+// Why a call is refused, by the number of its answer.
+#[derive(Clone, Copy)]
+enum Refusal {
+    BadLength = 41,
+    UnknownEdition = 42,
+    BadLayout = 43,
+    OutOfRange = 44,
+    ShortBuffer = 45,
+}
 
 impl Settings {
     // What a fresh state has.
@@ -93,10 +97,11 @@ impl Settings {
 }
 
 // A value is in the range of its variable, where VI and VM stand at these.
+// Stays: `vi` and `vm` come from a machine, from a file or from none (`OVER_VM`), and docs/PAPER.md names `Variable::range` with both.
 fn is_within(v: u32, value: i32, vi: i32, vm: i32) -> bool
     ensures { result ≡ in_range (range_of v vi vm) value }
 {
-    Variable(v).range(vi, vm).holds(value as i64)
+    Variable(v).range(vi, vm).holds(i64::from(value))
 }
 
 // All four values are in their ranges, where VI and VM stand at these.
@@ -122,20 +127,20 @@ pub fn by_place(s: &[u8]) -> Settings
     }
 }
 
-// The value of the first pair with this number; what was given where there is none.
-fn under(s: &[u8], v: u32, given: i32) -> i32
-    ensures { result ≡ under v (pairs_of s.now) given }
+// The value of the first pair with this number.
+// Stays: a pair is read out of the bytes by its number (`pair_at`), and the last eight bytes are no pair: `chunks_exact` would bring those too.
+fn under(s: &[u8], v: u32) -> Option<i32>
+    ensures shown { (given : ℤ) → unwrap_or result given ≡ under v (pairs_of s.now) given }
+    ensures found { is_some result ≡ has v (pairs_of s.now) }
 {
     let count = layout::pair_count(s);
-    let mut i = 0;
-    while i < count {
+    for i in 0..count {
         let p = layout::pair_at(s, i);
         if p.is_of(v) {
-            return p.value;
+            return Some(p.value);
         }
-        i += 1;
     }
-    given
+    None
 }
 
 // The values of edition 2, by number. Names that are absent keep what was given.
@@ -143,18 +148,18 @@ fn by_pairs(s: &[u8], given: Settings) -> Settings
     ensures { result ≡ by_pairs (pairs_of s.now) given }
 {
     Settings {
-        a: under(s, Variable::A, given.a),
-        d: under(s, Variable::D, given.d),
-        vi: under(s, Variable::VI, given.vi),
-        vm: under(s, Variable::VM, given.vm),
+        a: under(s, Variable::A).unwrap_or(given.a),
+        d: under(s, Variable::D).unwrap_or(given.d),
+        vi: under(s, Variable::VI).unwrap_or(given.vi),
+        vm: under(s, Variable::VM).unwrap_or(given.vm),
     }
 }
 
-// There is a pair with this number: what it shows does not go by what was given.
+// There is a pair with this number.
 fn has(s: &[u8], v: u32) -> bool
     ensures { result ≡ has v (pairs_of s.now) }
 {
-    under(s, v, 0) == under(s, v, 1)
+    under(s, v).is_some()
 }
 
 // The names that a file of either edition has.
@@ -180,36 +185,40 @@ pub fn finished(s: &[u8], given: Settings) -> Settings
     by_pairs(s, given)
 }
 
-fn refused(number: u8, given: Settings) -> Shown
-    ensures { result ≡ shown number given }
-{
-    Shown {
-        settings: given,
-        number,
-    }
-}
-
-// Reads a file of the editions 1 to `last`.
-fn read_up_to(last: u16, s: &[u8], given: Settings) -> Shown
-    ensures { result ≡ shown_by last s.now given }
+// Reads a file of the editions 1 to `last`: the finished set.
+fn read_up_to(last: u16, s: &[u8], given: Settings) -> Result<Settings, Refusal>
+    ensures { shown_answer given result ≡ shown_by last s.now given }
 {
     if (s.len() < SHORTEST) | (LONGEST < s.len()) {
-        return refused(BAD_LENGTH, given);
+        return Err(Refusal::BadLength);
     }
     let edition = layout::edition(s);
     if !((BY_PLACE <= edition) & (edition <= last)) {
-        return refused(UNKNOWN_EDITION, given);
+        return Err(Refusal::UnknownEdition);
     }
     if !layout::is_laid_out(s) {
-        return refused(BAD_LAYOUT, given);
+        return Err(Refusal::BadLayout);
     }
     let settings = finished(s, given);
     if !are_within(settings, settings.vi, settings.vm) {
-        return refused(OUT_OF_RANGE, given);
+        return Err(Refusal::OutOfRange);
     }
-    Shown {
-        settings,
-        number: 0,
+    Ok(settings)
+}
+
+// The answer of a reader: what was given where the file is refused.
+fn answered(read: Result<Settings, Refusal>, given: Settings) -> Shown
+    ensures { result ≡ shown_answer given read }
+{
+    match read {
+        Ok(settings) => Shown {
+            settings,
+            number: 0,
+        },
+        Err(refusal) => Shown {
+            settings: given,
+            number: refusal as u8,
+        },
     }
 }
 
@@ -217,14 +226,14 @@ fn read_up_to(last: u16, s: &[u8], given: Settings) -> Shown
 pub fn read(file: &[u8], given: Settings) -> Shown
     ensures { Reads file.now given result }
 {
-    read_up_to(BY_PAIR, file, given)
+    answered(read_up_to(BY_PAIR, file, given), given)
 }
 
 // The reader of edition 1.
 pub fn read_first(file: &[u8], given: Settings) -> Shown
     ensures { ReadsFirst file.now given result }
 {
-    read_up_to(BY_PLACE, file, given)
+    answered(read_up_to(BY_PLACE, file, given), given)
 }
 
 // A name is chosen, and its variable can never have this value.
@@ -288,22 +297,16 @@ fn write_pairs(file: &mut [u8], g: Settings, which: Chosen) -> usize
     write_pair(file, vm, which.vm, Variable::VM, g.vm)
 }
 
-fn not_written(number: u8) -> Written
-    ensures { result ≡ written number 0 }
-{
-    Written { length: 0, number }
-}
-
-// Writes an edition 2 file of the chosen names.
-pub fn write(settings: Settings, which: Chosen, file: &mut [u8]) -> Written
-    ensures { Writes settings which file.old result file.new }
+// Writes an edition 2 file of the chosen names: its length.
+fn write_file(settings: Settings, which: Chosen, file: &mut [u8]) -> Result<usize, Refusal>
+    ensures { Writes settings which file.old (written_answer result) file.new }
 {
     if is_any_outside(settings, which) {
-        return not_written(OUT_OF_RANGE);
+        return Err(Refusal::OutOfRange);
     }
     let length = file_size(which);
     if file.len() < length {
-        return not_written(SHORT_BUFFER);
+        return Err(Refusal::ShortBuffer);
     }
     let at = write_pairs(file, settings, which);
     numbers::write(
@@ -312,5 +315,18 @@ pub fn write(settings: Settings, which: Chosen, file: &mut [u8]) -> Written
         layout::TRAILER,
         layout::trailer(BY_PAIR, length as u16),
     );
-    Written { length, number: 0 }
+    Ok(length)
+}
+
+// Writes an edition 2 file of the chosen names.
+pub fn write(settings: Settings, which: Chosen, file: &mut [u8]) -> Written
+    ensures { Writes settings which file.old result file.new }
+{
+    match write_file(settings, which, file) {
+        Ok(length) => Written { length, number: 0 },
+        Err(refusal) => Written {
+            length: 0,
+            number: refusal as u8,
+        },
+    }
 }

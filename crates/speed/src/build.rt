@@ -1,6 +1,11 @@
 // The programs that are measured, and as many events as a run takes, byte by byte.
+ghost use Rattle.std.specs.Prelude.{◌≤◌};
+
 use comparing::Compared;
-use events::Event;
+use events::records::write_record;
+use events::script::SIZE;
+use events::{Event, Record};
+use std::array;
 
 // The largest programs are made of blocks of fourteen lines: eight statements and six declarations. In a block # stands for its character, @ and
 // % for those of blocks further on. Its ninth line is one of four, by the block's number. A variable counts up, an output is set, an input passes
@@ -84,7 +89,7 @@ RT
 // One event for each turn.
 pub const TURNS: usize = 4096;
 
-pub const EVENTS_SIZE: usize = events::script::SIZE * TURNS;
+pub const EVENTS_SIZE: usize = SIZE * TURNS;
 
 pub type Events = [u8; EVENTS_SIZE];
 
@@ -96,16 +101,12 @@ fn character(block: usize) -> u8 {
 
 // A byte of one of so many blocks, with the character that it stands for.
 fn filled(b: u8, block: usize, blocks: usize) -> u8 {
-    if b == b'#' {
-        return character(block);
+    match b {
+        b'#' => character(block),
+        b'@' => character(further(block, 13, blocks)),
+        b'%' => character(further(block, 11, blocks)),
+        _ => b,
     }
-    if b == b'@' {
-        return character(further(block, 13, blocks));
-    }
-    if b == b'%' {
-        return character(further(block, 11, blocks));
-    }
-    b
 }
 
 // The block so many further on, from the front again behind the last.
@@ -134,22 +135,18 @@ fn declaration_start(k: usize) -> usize {
 }
 
 fn letter(block: usize, blocks: usize, i: usize) -> u8 {
-    if BEFORE + NINTH <= i {
-        return filled(of_block(i), block, blocks);
-    }
-    if BEFORE <= i {
-        return filled(of_ninth(block, i - BEFORE), block, blocks);
-    }
-    filled(of_block(i), block, blocks)
+    let is_ninth = (BEFORE <= i) & (i < BEFORE + NINTH);
+    let b = if is_ninth {
+        of_ninth(block, i - BEFORE)
+    } else {
+        of_block(i)
+    };
+    filled(b, block, blocks)
 }
 
 // The largest program.
 pub fn text() -> Text {
-    let mut text = [0u8; TEXT_SIZE];
-    for at in 0..TEXT_SIZE {
-        text[at] = letter(at / BLOCK_SIZE, BLOCKS, at % BLOCK_SIZE);
-    }
-    text
+    array::from_fn(|at| letter(at / BLOCK_SIZE, BLOCKS, at % BLOCK_SIZE))
 }
 
 // A byte of the statements of so many blocks, or of the declarations behind them.
@@ -171,67 +168,34 @@ fn late_letter(blocks: usize, at: usize) -> u8 {
 
 // A program of so many bytes that declares its names behind all of its statements.
 pub fn late_text(size: usize) -> Text {
-    let mut text = [0u8; TEXT_SIZE];
-    for at in 0..TEXT_SIZE {
-        text[at] = late_letter(size / BLOCK_SIZE, at);
-    }
-    text
+    array::from_fn(|at| late_letter(size / BLOCK_SIZE, at))
 }
 
-fn kind(turn: usize) -> u8 {
-    if turn % 16 == 7 {
-        return Event::ARRIVAL;
-    }
-    if turn % 16 == 15 {
-        return Event::PLACE;
-    }
-    Event::INPUT
-}
-
-fn number(turn: usize) -> u8 {
-    if kind(turn) == Event::INPUT {
-        return 1 + (turn % 4) as u8;
-    }
-    0
-}
-
-fn value(turn: usize) -> usize {
-    let kind = kind(turn);
-    if kind == Event::INPUT {
-        return turn / 16 % 2;
-    }
-    if kind == Event::PLACE {
-        return turn % TURNS * 3;
-    }
-    0
-}
-
-// The lower byte of a number below 65,536, and the upper.
-fn low(n: usize) -> u8 {
-    (n % 256) as u8
-}
-
-fn high(n: usize) -> u8 {
-    (n / 256 % 256) as u8
-}
-
-// A byte of the event of a turn.
-fn byte(turn: usize, i: usize) -> u8 {
-    match i {
-        0 => low(turn),
-        1 => high(turn),
-        events::script::KIND => kind(turn),
-        events::script::NUMBER => number(turn),
-        events::script::VALUE => low(value(turn)),
-        9 => high(value(turn)),
-        _ => 0,
+// The event of a turn.
+fn event(turn: usize) -> Record {
+    match turn % 16 {
+        7 => Record {
+            kind: Event::ARRIVAL,
+            number: 0,
+            value: 0,
+        },
+        15 => Record {
+            kind: Event::PLACE,
+            number: 0,
+            value: (turn % TURNS * 3) as i32,
+        },
+        _ => Record {
+            kind: Event::INPUT,
+            number: (1 + turn % 4) as u32,
+            value: (turn / 16 % 2) as i32,
+        },
     }
 }
 
 pub fn events() -> Events {
     let mut events = [0u8; EVENTS_SIZE];
-    for at in 0..EVENTS_SIZE {
-        events[at] = byte(at / events::script::SIZE, at % events::script::SIZE);
+    for turn in 0..TURNS {
+        write_record(&mut events, SIZE * turn, turn as u32, event(turn));
     }
     events
 }
@@ -239,32 +203,34 @@ pub fn events() -> Events {
 // As many records as there may be.
 pub type Records = [u8; RECORDS_SIZE];
 
-const RECORDS_SIZE: usize = events::script::SIZE * Compared::MOST;
+const RECORDS_SIZE: usize = SIZE * Compared::MOST;
 
-// A number below 65,535, or one more.
-fn more_if(test: bool, n: usize) -> usize {
-    if test { n % 65535 + 1 } else { n }
+// 1 where a test holds, and else 0.
+fn one_if(test: bool) -> usize
+    ensures { result ≤ 1 }
+{
+    usize::from(test)
 }
 
-// A byte of a record of one of two runs; the second has another turn, kind, number or value in five records of eight.
-fn record_byte(k: usize, i: usize, other: bool) -> u8 {
-    let turn = more_if(other & (k % 8 == 1), k % Compared::MOST);
-    let value = more_if(other & (k % 4 == 0), k % Compared::MOST * 3);
-    match i {
-        0 => low(turn),
-        1 => high(turn),
-        events::script::KIND => low(more_if(other & (k % 8 == 2), 1 + k % 6)),
-        events::script::NUMBER => low(more_if(other & (k % 8 == 3), k % 4)),
-        events::script::VALUE => low(value),
-        9 => high(value),
-        _ => 0,
-    }
+// The turn of a record of one of two runs, and the record; the second has another turn, kind, number or value in five of eight.
+fn record(k: usize, other: bool) -> (u32, Record) {
+    let turn = k % Compared::MOST + one_if(other & (k % 8 == 1));
+    let kind = 1 + k % 6 + one_if(other & (k % 8 == 2));
+    let number = k % 4 + one_if(other & (k % 8 == 3));
+    let value = k % Compared::MOST * 3 + one_if(other & (k % 4 == 0));
+    let record = Record {
+        kind: kind as u8,
+        number: number as u32,
+        value: value as i32,
+    };
+    (turn as u32, record)
 }
 
 pub fn records(other: bool) -> Records {
     let mut records = [0u8; RECORDS_SIZE];
-    for at in 0..RECORDS_SIZE {
-        records[at] = record_byte(at / events::script::SIZE, at % events::script::SIZE, other);
+    for k in 0..Compared::MOST {
+        let (turn, record) = record(k, other);
+        write_record(&mut records, SIZE * k, turn, record);
     }
     records
 }

@@ -1,7 +1,7 @@
 // What differs between the records of two runs, side by side.
-use crate::{Entry, trace};
-use comparing::Compared;
+use crate::{given, trace};
 use parts::Line;
+use words::{Kind, Part};
 
 // The columns: numbers of records, turns and records, and what stands between two of them.
 const NUMBER_WIDTH: usize = 7;
@@ -17,95 +17,102 @@ const SECOND_COLUMN: usize = NUMBER_WIDTH + GAP + TURN_WIDTH + GAP + RECORD_WIDT
 
 const LAST_COLUMN: usize = SECOND_COLUMN + GAP + TURN_WIDTH + GAP + RECORD_WIDTH;
 
+// The fields of a record, in the order in which they are told.
+const FIELDS: [u32; 4] = [
+    comparing::TURN,
+    comparing::KIND,
+    comparing::NUMBER,
+    comparing::VALUE,
+];
+
+// One of two runs: its records, and the image that names what they are of, or an empty one.
+#[derive(Clone, Copy)]
+pub struct Side<'a> {
+    pub records: &'a [u8],
+    pub image: &'a [u8],
+}
+
 // An entry of a list: the number of a record, and the sum of what differs in it.
-pub fn entry(list: &[u8], i: usize) -> Entry {
-    let at = comparing::ENTRY * (i % Compared::MOST);
-    Entry {
-        number: numbers::read4(list, at) as usize,
-        sum: numbers::read4(list, at + comparing::SUM),
+// Stays: a sum, as the list has it (`entry_bytes` in comparing/specs), from which each field that differs is one test.
+#[derive(Clone, Copy)]
+pub struct Entry {
+    pub number: usize,
+    pub sum: u32,
+}
+
+impl Side<'_> {
+    // How many records a run has.
+    fn count(self) -> usize {
+        events::script::event_count(self.records)
+    }
+
+    // A record with its turn.
+    fn record(self, line: Line, number: usize) -> Line {
+        let record = given::entry(self.records, number);
+        let line = line.spaces(GAP).number_to(record.turn as u64, TURN_WIDTH);
+        trace::short(line.spaces(GAP), self.image, record)
+    }
+}
+
+impl Entry {
+    // An entry by its bytes.
+    pub fn read(bytes: &[u8]) -> Entry {
+        Entry {
+            number: numbers::read4(bytes, 0) as usize,
+            sum: numbers::read4(bytes, comparing::SUM),
+        }
+    }
+
+    // What differs: which run alone has the record, or the fields, with a comma between two of them.
+    fn told(self, line: Line) -> Line {
+        match self.sum {
+            comparing::FIRST_ONLY | comparing::SECOND_ONLY => {
+                crate::meaning(line, Kind::Difference, self.sum)
+            }
+            _ => self.fields(line),
+        }
+    }
+
+    fn fields(self, mut line: Line) -> Line {
+        let mut comma: &[u8] = b"";
+        for field in FIELDS {
+            if self.sum & field != 0 {
+                line = crate::meaning(line.bytes(comma), Kind::Difference, field);
+                comma = b", ";
+            }
+        }
+        line
+    }
+
+    // The row of the entry, with the record of each run that has it.
+    pub fn row(self, first: Side<'_>, second: Side<'_>) -> Line {
+        let mut line = Line::empty().number_to(self.number as u64, NUMBER_WIDTH);
+        if self.sum != comparing::SECOND_ONLY {
+            line = first.record(line, self.number);
+        }
+        line = crate::filled(line, SECOND_COLUMN);
+        if self.sum != comparing::FIRST_ONLY {
+            line = second.record(line, self.number);
+        }
+        line = crate::filled(line, LAST_COLUMN).spaces(GAP);
+        self.told(line).end()
     }
 }
 
 // Above the rows, where there are any.
 pub fn header(entries: usize) -> Line {
-    let line = Line::empty();
     if entries == 0 {
-        return line;
+        return Line::empty();
     }
-    crate::part(line, words::COMPARED).end()
-}
-
-// The record of one run, with its turn; nothing where it has none.
-fn side(mut line: Line, is_there: bool, records: &[u8], image: &[u8], number: usize) -> Line {
-    if !is_there {
-        return line;
-    }
-    let record = trace::entry(records, number);
-    line = line.spaces(GAP);
-    line = line.number_to(record.turn as u64, TURN_WIDTH);
-    line = line.spaces(GAP);
-    trace::short(line, image, record)
-}
-
-// A field that differs, behind a comma where another stands before it.
-fn field(mut line: Line, before: u32, digit: u32, weight: u32) -> Line {
-    if digit % 2 == 0 {
-        return line;
-    }
-    if before != 0 {
-        line = line.byte(b',').byte(b' ');
-    }
-    crate::meaning(line, words::DIFFERENCE, weight)
-}
-
-// What a sum tells.
-fn told(mut line: Line, sum: u32) -> Line {
-    line = field(line, 0, sum, comparing::TURN);
-    line = field(line, sum % 2, sum / 2, comparing::KIND);
-    line = field(line, sum % 4, sum / 4, comparing::NUMBER);
-    line = field(line, sum % 8, sum / 8, comparing::VALUE);
-    line = field(line, 0, sum / 16, comparing::FIRST_ONLY);
-    field(line, 0, sum / 32, comparing::SECOND_ONLY)
-}
-
-// The row of a record number, with the sum of what differs. Each run may have an image, which names what its records are of.
-pub fn row(
-    first: &[u8],
-    first_image: &[u8],
-    second: &[u8],
-    second_image: &[u8],
-    number: usize,
-    sum: u32,
-) -> Line {
-    let mut line = Line::empty();
-    line = line.number_to(number as u64, NUMBER_WIDTH);
-    line = side(
-        line,
-        sum != comparing::SECOND_ONLY,
-        first,
-        first_image,
-        number,
-    );
-    line = crate::filled(line, SECOND_COLUMN);
-    line = side(
-        line,
-        sum != comparing::FIRST_ONLY,
-        second,
-        second_image,
-        number,
-    );
-    line = crate::filled(line, LAST_COLUMN);
-    line = line.spaces(GAP);
-    told(line, sum).end()
+    crate::part(Line::empty(), Part::Compared).end()
 }
 
 // How many records there are, and how many record numbers are listed.
-pub fn counted(first: usize, second: usize, entries: usize) -> Line {
-    let mut line = crate::part_number(Line::empty(), words::RECORDS, first as u64);
+pub fn counted(first: Side<'_>, second: Side<'_>, entries: usize) -> Line {
+    let line = crate::part_number(Line::empty(), Part::Records, first.count() as u64);
     if entries == 0 {
-        return crate::part(line, words::EQUAL).end();
+        return crate::part(line, Part::Equal).end();
     }
-    line = crate::part_number(line, words::AND, second as u64);
-    line = crate::part_number(line, words::DIFFERENT, entries as u64);
-    line.end()
+    let line = crate::part_number(line, Part::And, second.count() as u64);
+    crate::part_number(line, Part::Different, entries as u64).end()
 }

@@ -1,163 +1,154 @@
-// What is wrong with an event, and what was given in place of an image.
-use crate::marks::NOTHING;
-use crate::trace::entry;
-use crate::{Hint, hints};
+// What is wrong with an event, and what was given in place of an image or of records.
+use crate::hints::{Found, Hint};
 use comparing::Compared;
+use events::script::{SIZE, event_at, event_count, first_bad_event, is_bad_script};
 use events::{Event, Record};
 
-// The faults of an event, by the numbers of their hints.
-const FALLING: u32 = 43;
+// What is wrong with an event, by the number of its hint.
+#[derive(Clone, Copy)]
+pub enum EventFault {
+    Falling = 43,
+    InputNumber = 44,
+    InputValue = 45,
+    FarPlace = 46,
+    NoKind = 47,
+    NotZero = 48,
+}
 
-const INPUT_NUMBER: u32 = 44;
+// What a file seems to be that is no image, by the number of its hint.
+#[derive(Clone, Copy)]
+pub enum FileFault {
+    Text = 49,
+    Entries = 50,
+    Empty = 51,
+}
 
-const INPUT_VALUE: u32 = 45;
+// What is wrong with records, by the number of its hint.
+#[derive(Clone, Copy, PartialEq)]
+pub enum RecordsFault {
+    NotZero = 48,
+    Many = 57,
+    Part = 58,
+    Text = 59,
+}
 
-const FAR_PLACE: u32 = 46;
-
-const NO_KIND: u32 = 47;
-
-pub const NOT_ZERO: u32 = 48;
-
-// No event has this number.
-pub const NO_EVENTS: usize = usize::MAX;
-
-// What a file seems to be.
-const TEXT: u32 = 49;
-
-const ENTRIES: u32 = 50;
-
-const EMPTY: u32 = 51;
-
-pub const EDITION: u32 = 52;
-
-// What is wrong with records, beside zeros that are not 0.
-const MANY_RECORDS: u32 = 57;
-
-const PART_OF_A_RECORD: u32 = 58;
-
-const TEXT_FOR_RECORDS: u32 = 59;
+// What a run refuses of its events: all of them, or one by its number.
+#[derive(Clone, Copy)]
+pub enum Refused {
+    Script,
+    Event(usize),
+}
 
 // The refusal of an image of another edition.
+// Stays: `Checks` (crates/bench/specs/Calls.antt) gives a refusal of an image by its number, and telling is asked with that number.
 const OTHER_EDITION: u8 = 22;
 
-// The number of the first event that a run refuses, and how many there are where it refuses none; or that they are no events as a whole.
-pub fn first_refused(events: &[u8]) -> usize {
-    if Event::MOST < events::script::event_count(events) {
-        return NO_EVENTS;
+// What a run refuses of these events first, where it does not take them.
+pub fn first_refused(events: &[u8]) -> Option<Refused> {
+    if (Event::MOST < event_count(events)) | is_bad_script(events) {
+        return Some(Refused::Script);
     }
-    if events::script::is_bad_script(events) {
-        return NO_EVENTS;
-    }
-    events::script::first_bad_event(events)
+    let index = first_bad_event(events);
+    (index < event_count(events)).then_some(Refused::Event(index))
 }
 
-// Why an input is bad.
-fn of_input(event: Event) -> u32 {
-    if (event.number < 1) | (Event::INPUTS < event.number) {
-        return INPUT_NUMBER;
-    }
-    if (event.value < 0) | (1 < event.value) {
-        return INPUT_VALUE;
-    }
-    NOT_ZERO
+// A record or an event by its number; none has a number above the most records.
+pub fn entry(bytes: &[u8], k: usize) -> Event {
+    event_at(bytes, k.min(Compared::MOST))
 }
 
-// Why a position is bad.
-fn of_place(event: Event) -> u32 {
-    if (event.number == 0) & (event.zeros == 0) {
-        return FAR_PLACE;
+impl EventFault {
+    // Why an input is bad.
+    fn of_input(event: Event) -> EventFault {
+        if !(1..=Event::INPUTS).contains(&event.number) {
+            return EventFault::InputNumber;
+        }
+        if !(0..=1).contains(&event.value) {
+            return EventFault::InputValue;
+        }
+        EventFault::NotZero
     }
-    NOT_ZERO
-}
 
-// Why a bad event is bad that follows one in this turn.
-fn of_event(event: Event, before: u32) -> u32 {
-    if event.turn < before {
-        return FALLING;
+    // Why a position is bad.
+    fn of_place(event: Event) -> EventFault {
+        if (event.number == 0) & (event.zeros == 0) {
+            return EventFault::FarPlace;
+        }
+        EventFault::NotZero
     }
-    let kind = event.kind;
-    match kind {
-        Event::INPUT => of_input(event),
-        Event::ARRIVAL => NOT_ZERO,
-        Event::PLACE => of_place(event),
-        _ => NO_KIND,
+
+    // Why the event with this number is bad. The first has none before it, and so is not below itself.
+    pub fn of(events: &[u8], index: usize) -> EventFault {
+        let before = entry(events, index.saturating_sub(1));
+        let event = entry(events, index);
+        if event.turn < before.turn {
+            return EventFault::Falling;
+        }
+        match event.kind {
+            Event::INPUT => EventFault::of_input(event),
+            Event::ARRIVAL => EventFault::NotZero,
+            Event::PLACE => EventFault::of_place(event),
+            _ => EventFault::NoKind,
+        }
     }
-}
 
-// Why the event with this number is bad. The first has none before it, and so is not below itself.
-pub fn fault(events: &[u8], index: usize) -> u32 {
-    let before = entry(events, crate::one_less(index));
-    of_event(entry(events, index), before.turn)
-}
-
-// Which word of a script's line is at fault, from 0.
-fn word_at_fault(fault: u32) -> usize {
-    match fault {
-        INPUT_NUMBER => 2,
-        INPUT_VALUE => 3,
-        FAR_PLACE => 2,
-        _ => 0,
+    // Which word of a script's line is at fault, from 0.
+    fn word(self) -> usize {
+        match self {
+            EventFault::InputNumber | EventFault::FarPlace => 2,
+            EventFault::InputValue => 3,
+            EventFault::Falling | EventFault::NoKind | EventFault::NotZero => 0,
+        }
     }
-}
 
-// Why the event on a line of a script is bad, and where.
-pub fn on_line(line: &[u8], fault: u32) -> Hint {
-    let place = parts::word_place(parts::code(line), word_at_fault(fault));
-    hints::at(place, fault, 0)
+    // Where it is on a line of a script.
+    pub fn on_line(self, line: &[u8]) -> Found {
+        Hint::Event(self).at(parts::word_place(parts::code(line), self.word()))
+    }
 }
 
 // Entries with a kind and zeros as an event or a record has them alone, in 12 bytes each. The last zeros stand where an image has its edition.
 pub fn are_entries(bytes: &[u8]) -> bool {
-    if events::script::is_bad_script(bytes) {
-        return false;
-    }
-    for k in 0..events::script::event_count(bytes) {
-        let entry = entry(bytes, k);
-        if (entry.kind < 1) | (Record::FAILED < entry.kind) | (entry.zeros != 0) {
-            return false;
-        }
-    }
-    true
+    !is_bad_script(bytes)
+        && bytes.chunks_exact(SIZE).all(|bytes| {
+            let entry = event_at(bytes, 0);
+            (1..=Record::FAILED).contains(&entry.kind) & (entry.zeros == 0)
+        })
 }
 
 // The number of the first record whose zeros are not 0; how many there are where all are.
+// Stays: it is asked where a comparison refused the records for their zeros, so there is one; an Option would be unwrapped at its one use.
 pub fn first_bad_record(bytes: &[u8]) -> usize {
-    let count = events::script::event_count(bytes);
-    for k in 0..count {
-        if entry(bytes, k).zeros != 0 {
-            return k;
-        }
-    }
-    count
+    let first = bytes
+        .chunks_exact(SIZE)
+        .position(|record| event_at(record, 0).zeros != 0);
+    first.unwrap_or(event_count(bytes))
 }
 
 // What is wrong with bytes that are no records.
-pub fn instead_of_records(bytes: &[u8]) -> u32 {
-    if Compared::MOST < events::script::event_count(bytes) {
-        return MANY_RECORDS;
+pub fn instead_of_records(bytes: &[u8]) -> RecordsFault {
+    if Compared::MOST < event_count(bytes) {
+        return RecordsFault::Many;
     }
     if !scripts::is_bytes(bytes) {
-        return TEXT_FOR_RECORDS;
+        return RecordsFault::Text;
     }
-    if bytes.len() % events::script::SIZE != 0 {
-        return PART_OF_A_RECORD;
+    if bytes.len() % SIZE != 0 {
+        return RecordsFault::Part;
     }
-    NOT_ZERO
+    RecordsFault::NotZero
 }
 
 // What was given in place of an image, with this refusal.
-pub fn instead(file: &[u8], refusal: u8) -> u32 {
-    if file.len() == 0 {
-        return EMPTY;
+pub fn instead(file: &[u8], refusal: u8) -> Option<Hint> {
+    if file.is_empty() {
+        return Some(Hint::File(FileFault::Empty));
     }
     if !scripts::is_bytes(file) {
-        return TEXT;
+        return Some(Hint::File(FileFault::Text));
     }
     if are_entries(file) {
-        return ENTRIES;
+        return Some(Hint::File(FileFault::Entries));
     }
-    if refusal == OTHER_EDITION {
-        return EDITION;
-    }
-    NOTHING
+    (refusal == OTHER_EDITION).then_some(Hint::Edition(image::edition(file)))
 }

@@ -1,278 +1,331 @@
 // What is wrong on a line of a text, as far as can be told, and where.
-use crate::marks::NOTHING;
-use crate::{Hint, marks, runs};
+use crate::given::{EventFault, FileFault, RecordsFault};
+use crate::marks::Mark;
+use crate::runs::Mnemonic;
+use crate::{marks, runs};
 use program::Variable;
-use program::names::{is_digit, is_paper_word, is_user_name, place_in};
+use program::names::{is_paper_word, is_user_name};
 use program::reserved::is_reserved;
-use reading::Reading;
+use rows::Kind;
 
-// The refusals of a line that point at more than its beginning; those of a line by itself are known to its reading.
-const REPEATED: u8 = 6;
+// What is said of what is wrong. A name is told by its key.
+#[derive(Clone, Copy)]
+pub enum Hint {
+    Byte(Mark),
+    Form(FormFault),
+    // What the mnemonic takes that the line begins with.
+    Takes(Mnemonic),
+    Name(u16, NameFault),
+    Undeclared(u16),
+    Event(EventFault),
+    Records(RecordsFault),
+    File(FileFault),
+    // An image of another edition.
+    Edition(u16),
+}
 
-const UNKNOWN: u8 = 8;
+// Where something is wrong on a line, and what, as far as can be told.
+#[derive(Clone, Copy)]
+pub struct Found {
+    pub place: usize,
+    pub hint: Option<Hint>,
+}
 
-const STORED: u8 = 9;
+// What is wrong with the words on a line that is no statement, by the number of its hint.
+#[derive(Clone, Copy)]
+pub enum FormFault {
+    LongWord = 8,
+    LongNumber = 9,
+    NoStatement = 10,
+    NoEquals = 11,
+    NoForm = 12,
+    OneLetter = 22,
+    SecondOperator = 23,
+    NumberForLabel = 24,
+}
 
-// The words on a line that is no statement.
-const LONG_WORD: u32 = 8;
+// What is wrong with a name, by the number of its hint, which begins with the name. Where a line declares one of the last four, which no line may
+// declare, they say what it is; the very last is for its other uses.
+#[derive(Clone, Copy)]
+pub enum NameFault {
+    IsVariable = 40,
+    IsLabel = 41,
+    ReadOnly = 42,
+    IsMnemonic = 53,
+    IsPaperVariable = 54,
+    IsDriveWord = 55,
+    NeverDeclared = 56,
+}
 
-const LONG_NUMBER: u32 = 9;
+// The numbers of the other hints: they end with what they are about.
+const UNDECLARED: u32 = 39;
 
-const NO_STATEMENT: u32 = 10;
+const EDITION: u32 = 52;
 
-const NO_EQUALS: u32 = 11;
-
-const NO_FORM: u32 = 12;
-
-const ONE_LETTER: u32 = 22;
-
-const SECOND_OPERATOR: u32 = 23;
-
-const NUMBER_FOR_LABEL: u32 = 24;
-
-// The words on names: the name stands behind the first of them, and in front of the others.
-pub const UNDECLARED: u32 = 39;
-
-const IS_VARIABLE: u32 = 40;
-
-const IS_LABEL: u32 = 41;
-
-const READ_ONLY: u32 = 42;
-
-// The words on a name that no line may declare; it stands in front too. Where a line does, they say what it is; the last is for its other uses.
-const IS_MNEMONIC: u32 = 53;
-
-const IS_PAPER_VARIABLE: u32 = 54;
-
-const IS_DRIVE_WORD: u32 = 55;
-
-const NEVER_DECLARED: u32 = 56;
+// The refusals of a line that point at more than its beginning, by their numbers.
+#[derive(Clone, Copy)]
+enum Refusal {
+    LongLine = 2,
+    BadForm = 3,
+    BigLiteral = 4,
+    ReservedName = 5,
+    Repeated = 6,
+    Unknown = 8,
+    Stored = 9,
+}
 
 // The longest runs of digits.
 const DIGITS: usize = 10;
 
-// The operators, each in the bytes of a name.
-const OPERATORS: [u8; 14] = *b"+\0-\0*\0/\0&\0|\0^\0";
-
-const ZERO: u16 = b'0' as u16;
-
 const HIGHEST: u64 = Variable::HIGHEST_LITERAL as u64;
 
-// Whether a hint begins with the name that it is about.
-pub fn begins_with_name(number: u32) -> bool {
-    (IS_VARIABLE <= number) & (number <= READ_ONLY)
-        | (IS_MNEMONIC <= number) & (number <= NEVER_DECLARED)
+impl Hint {
+    // The number of its words.
+    pub fn number(self) -> u32 {
+        match self {
+            Hint::Byte(mark) => mark as u32,
+            Hint::Form(fault) => fault as u32,
+            Hint::Takes(mnemonic) => mnemonic.hint(),
+            Hint::Name(_, fault) => fault as u32,
+            Hint::Undeclared(_) => UNDECLARED,
+            Hint::Event(fault) => fault as u32,
+            Hint::Records(fault) => fault as u32,
+            Hint::File(fault) => fault as u32,
+            Hint::Edition(_) => EDITION,
+        }
+    }
+
+    // The hint, and its place on a line.
+    pub fn at(self, place: usize) -> Found {
+        Found {
+            place,
+            hint: Some(self),
+        }
+    }
 }
 
-// What is wrong at a place of a line, and the name that it is about, or 0. No place is far behind the longest line.
-pub fn at(place: usize, number: u32, name: u16) -> Hint {
-    if text::Span::LONGEST < place {
-        return Hint {
-            column: 1,
-            number,
-            name,
-        };
+impl Found {
+    // A place of which no more is told.
+    pub fn place(place: usize) -> Found {
+        Found { place, hint: None }
     }
-    Hint {
-        column: place + 1,
-        number,
-        name,
+
+    // The column, from 1. No place is far behind the longest line.
+    pub fn column(self) -> usize {
+        if text::Span::LONGEST < self.place {
+            return 1;
+        }
+        self.place + 1
+    }
+}
+
+impl Refusal {
+    const ALL: [Refusal; 7] = [
+        Refusal::LongLine,
+        Refusal::BadForm,
+        Refusal::BigLiteral,
+        Refusal::ReservedName,
+        Refusal::Repeated,
+        Refusal::Unknown,
+        Refusal::Stored,
+    ];
+
+    fn of(number: u8) -> Option<Refusal> {
+        Self::ALL
+            .into_iter()
+            .find(|refusal| *refusal as u8 == number)
     }
 }
 
 // What is wrong with a run on a line that is no statement: it is too long, or too short for a name. A first run may be a mnemonic.
-fn of_run(run: &[u8], is_first: bool) -> u32 {
-    let first = parts::byte(run, 0);
-    if is_first & (runs::mnemonic(run) != NOTHING) {
-        return NOTHING;
+fn of_run(run: &[u8], is_first: bool) -> Option<FormFault> {
+    if is_first && Mnemonic::of(run).is_some() {
+        return None;
     }
-    if is_digit(first) {
-        return number_if(DIGITS < run.len(), LONG_NUMBER);
-    }
-    if runs::WORD < run.len() {
-        return LONG_WORD;
-    }
-    let is_name = is_first | is_paper_word(first as u16);
-    number_if((run.len() == 1) & !is_name, ONE_LETTER)
-}
-
-// How the name is declared that a run is, if it is one of the user's and not declared as it is wanted: as a label, or else as a variable.
-fn of_user(text: &[u8], run: &[u8], is_label: bool) -> u32 {
-    let key = runs::key(run);
-    if !is_user_name(key) {
-        return NOTHING;
-    }
-    let row = names::declared_as(text, key);
-    let kind = row[rows::KIND];
-    if kind == rows::LABEL {
-        return number_if(!is_label, IS_LABEL);
-    }
-    if kind == rows::VARIABLE {
-        return number_if(is_label, IS_VARIABLE);
-    }
-    if is_reserved(key) {
-        return NEVER_DECLARED;
-    }
-    UNDECLARED
-}
-
-// What a name is that no line may declare.
-fn of_reserved(name: &[u8]) -> u32 {
-    if runs::mnemonic(name) != NOTHING {
-        return IS_MNEMONIC;
-    }
-    if Variable::number_of(runs::key(name)) != 0 {
-        return IS_PAPER_VARIABLE;
-    }
-    IS_DRIVE_WORD
-}
-
-fn number_if(test: bool, number: u32) -> u32 {
-    if test { number } else { NOTHING }
-}
-
-// Whether a run is what a refusal points at. One run of the line is told apart: its first, or the name of a label.
-fn is_meant(text: &[u8], run: &[u8], is_apart: bool, refusal: u8) -> bool {
-    if refusal == Reading::BAD_FORM {
-        return of_run(run, is_apart) != NOTHING;
-    }
-    if refusal == Reading::BIG_LITERAL {
-        let number = scripts::digits(run);
-        return HIGHEST < number.size;
-    }
-    of_user(text, run, is_apart) != NOTHING
-}
-
-// The place of the first such run; the length of the code where there is none.
-fn first_meant(text: &[u8], code: &[u8], apart: usize, refusal: u8) -> usize {
-    let mut i: usize = 0;
-    while i < code.len() {
-        if runs::begins(code, i) & is_meant(text, runs::at(code, i), i == apart, refusal) {
-            return i;
+    match run {
+        [b'0'..=b'9', ..] => (DIGITS < run.len()).then_some(FormFault::LongNumber),
+        [first] => {
+            let is_name = is_first | is_paper_word(*first as u16);
+            (!is_name).then_some(FormFault::OneLetter)
         }
-        i += 1;
+        _ => (runs::WORD < run.len()).then_some(FormFault::LongWord),
     }
-    i
 }
 
-// The place of a label's name that a line jumps to; the length of the code where it jumps nowhere.
-fn label_place(code: &[u8]) -> usize {
-    if runs::wants_label(runs::beginning(code)) {
-        return runs::second(code);
+// How the name is declared that a run is, if it is one of the user's and not declared as it is wanted.
+fn of_user(text: &[u8], run: &[u8], wanted: Kind) -> Option<Hint> {
+    let key = runs::key(run)?;
+    if !is_user_name(key) {
+        return None;
     }
-    code.len()
+    match names::declared_as(text, key).map(|declared| declared.kind) {
+        Some(kind) if kind == wanted => None,
+        Some(Kind::Label) => Some(Hint::Name(key, NameFault::IsLabel)),
+        Some(Kind::Variable) => Some(Hint::Name(key, NameFault::IsVariable)),
+        None if is_reserved(key) => Some(Hint::Name(key, NameFault::NeverDeclared)),
+        None => Some(Hint::Undeclared(key)),
+    }
+}
+
+// What a word is that no line may declare. Of the words of the paper, those that are no mnemonics are variables.
+fn of_word(word: &[u8], key: u16) -> NameFault {
+    if Mnemonic::of(word).is_some() {
+        return NameFault::IsMnemonic;
+    }
+    if is_paper_word(key) {
+        return NameFault::IsPaperVariable;
+    }
+    NameFault::IsDriveWord
+}
+
+// The name that a line declares and that no line may declare.
+fn of_reserved(code: &[u8]) -> Found {
+    let place = runs::second(code);
+    let word = runs::at(code, place);
+    Found {
+        place,
+        hint: runs::key(word).map(|key| Hint::Name(key, of_word(word, key))),
+    }
+}
+
+// Whether a run is a number that no literal can be.
+fn is_big(run: &[u8]) -> bool {
+    scripts::digits(run).is_ok_and(|size| HIGHEST < size)
+}
+
+// The place of a label's name that a line jumps to, if it jumps anywhere.
+fn label_place(code: &[u8]) -> Option<usize> {
+    let mnemonic = runs::beginning(code)?;
+    mnemonic.wants_label().then(|| runs::second(code))
 }
 
 // The place of the name that a line stores to: behind a mnemonic, or in front.
 fn stored_place(code: &[u8]) -> usize {
-    if runs::beginning(code) != NOTHING {
-        return runs::second(code);
+    match runs::beginning(code) {
+        Some(_) => runs::second(code),
+        None => runs::first(code),
     }
-    runs::first(code)
 }
 
 // Whether an operator stands at a place.
+// Stays: forms has the operators in the order of their numbers, for its own use; asked of one byte, a pattern is plainer than a table.
 fn has_operator(code: &[u8], place: usize) -> bool {
-    place_in(&OPERATORS, parts::byte(code, place) as u16) != 0
+    matches!(
+        parts::byte(code, place),
+        b'+' | b'-' | b'*' | b'/' | b'&' | b'|' | b'^'
+    )
 }
 
 // The place behind the operand that follows a sign. Its first byte, be it a minus, is passed over.
 fn behind_operand(code: &[u8], sign: usize) -> usize {
-    let first = parts::past_blanks(code, crate::one_more(sign));
-    parts::past_blanks(code, runs::end(code, crate::one_more(first)))
+    let first = parts::past_blanks(code, sign.saturating_add(1));
+    parts::past_blanks(code, runs::end(code, first.saturating_add(1)))
 }
 
 // A line with an equals sign behind its first run.
-fn of_setting(code: &[u8]) -> Hint {
+fn of_setting(code: &[u8]) -> Found {
     let first = runs::first(code);
-    if of_run(runs::at(code, first), false) != NOTHING {
-        return at(first, ONE_LETTER, 0);
+    if of_run(runs::at(code, first), false).is_some() {
+        return Hint::Form(FormFault::OneLetter).at(first);
     }
     let operator = behind_operand(code, runs::second(code));
     let next = behind_operand(code, operator);
     if has_operator(code, operator) & has_operator(code, next) {
-        return at(next, SECOND_OPERATOR, 0);
+        return Hint::Form(FormFault::SecondOperator).at(next);
     }
-    at(first, NO_FORM, 0)
+    Hint::Form(FormFault::NoForm).at(first)
 }
 
 // A line that begins with a mnemonic: a number stands where a label's name is wanted, other than the one that OE takes, or what it takes.
-fn of_mnemonic(code: &[u8], mnemonic: u32) -> Hint {
+fn of_mnemonic(code: &[u8], mnemonic: Mnemonic) -> Found {
     let second = runs::second(code);
-    let is_zero = (mnemonic == runs::OE) & (runs::key(runs::at(code, second)) == ZERO);
-    if runs::wants_label(mnemonic) & is_digit(parts::byte(code, second)) & !is_zero {
-        return at(second, NUMBER_FOR_LABEL, 0);
+    let is_number = match runs::at(code, second) {
+        [b'0'] => !mnemonic.takes_zero(),
+        [b'0'..=b'9', ..] => true,
+        _ => false,
+    };
+    if mnemonic.wants_label() & is_number {
+        return Hint::Form(FormFault::NumberForLabel).at(second);
     }
-    at(runs::first(code), mnemonic, 0)
+    Hint::Takes(mnemonic).at(runs::first(code))
 }
 
 // How a line begins that is no statement.
-fn of_beginning(code: &[u8]) -> Hint {
-    let mnemonic = runs::beginning(code);
-    if mnemonic != NOTHING {
+fn of_beginning(code: &[u8]) -> Found {
+    if let Some(mnemonic) = runs::beginning(code) {
         return of_mnemonic(code, mnemonic);
     }
     if parts::byte(code, runs::second(code)) == b'=' {
         return of_setting(code);
     }
     let first = runs::first(code);
-    if Variable::number_of(runs::key(runs::at(code, first))) != 0 {
-        return at(first, NO_EQUALS, 0);
+    // It is no mnemonic, and so a variable.
+    if runs::key(runs::at(code, first)).is_some_and(is_paper_word) {
+        return Hint::Form(FormFault::NoEquals).at(first);
     }
-    at(first, NO_STATEMENT, 0)
+    Hint::Form(FormFault::NoStatement).at(first)
 }
 
 // The first run that is wrong on a line that is no statement, or how the line begins.
-fn of_words(code: &[u8]) -> Hint {
+fn of_words(code: &[u8]) -> Found {
     let first = runs::first(code);
-    let place = first_meant(code, code, first, Reading::BAD_FORM);
-    let number = of_run(runs::at(code, place), place == first);
-    if number == NOTHING {
-        return of_beginning(code);
+    match runs::first_told(code, |place, run| of_run(run, place == first)) {
+        Some((place, fault)) => Hint::Form(fault).at(place),
+        None => of_beginning(code),
     }
-    at(place, number, 0)
 }
 
 // What is wrong on a line that is no statement: the first byte that stands wrong, or the words.
-fn of_form(line: &[u8], code: &[u8]) -> Hint {
-    let place = marks::first(line, code.len());
-    let number = marks::at(line, code.len(), place);
-    if number == NOTHING {
-        return of_words(code);
-    }
-    at(place, number, 0)
-}
-
-// Where a line gets a refusal, other than for its form.
-fn place_of(text: &[u8], code: &[u8], refusal: u8) -> usize {
-    match refusal {
-        Reading::LONG_LINE => text::Span::LONGEST,
-        Reading::BIG_LITERAL => first_meant(text, code, 0, refusal),
-        Reading::RESERVED_NAME => runs::second(code),
-        REPEATED => runs::second(code),
-        UNKNOWN => first_meant(text, code, label_place(code), refusal),
-        STORED => stored_place(code),
-        _ => runs::first(code),
+fn of_form(line: &[u8], code: &[u8]) -> Found {
+    match marks::first(line, code.len()) {
+        Some((place, mark)) => Hint::Byte(mark).at(place),
+        None => of_words(code),
     }
 }
 
-// What is wrong at that place.
-fn number_of(text: &[u8], code: &[u8], place: usize, refusal: u8) -> u32 {
-    match refusal {
-        Reading::RESERVED_NAME => of_reserved(runs::at(code, place)),
-        UNKNOWN => of_user(text, runs::at(code, place), place == label_place(code)),
-        STORED => READ_ONLY,
-        _ => NOTHING,
+// The first number on a line that no literal can be.
+fn of_literal(code: &[u8]) -> Found {
+    let big = runs::first_told(code, |_, run| is_big(run).then_some(()));
+    Found::place(big.map_or(code.len(), |(place, _)| place))
+}
+
+// The first name on a line that is not declared as it is wanted.
+fn of_names(text: &[u8], code: &[u8]) -> Found {
+    let label = label_place(code);
+    let wanted = |place| {
+        if label == Some(place) {
+            Kind::Label
+        } else {
+            Kind::Variable
+        }
+    };
+    match runs::first_told(code, |place, run| of_user(text, run, wanted(place))) {
+        Some((place, hint)) => hint.at(place),
+        None => Found::place(code.len()),
+    }
+}
+
+// The name that a line stores to.
+fn of_stored(code: &[u8]) -> Found {
+    let place = stored_place(code);
+    let name = runs::key(runs::at(code, place));
+    Found {
+        place,
+        hint: name.map(|key| Hint::Name(key, NameFault::ReadOnly)),
     }
 }
 
 // What is wrong on a line of a text that gets a refusal.
-pub fn of_line(text: &[u8], line: &[u8], refusal: u8) -> Hint {
+pub fn of_line(text: &[u8], line: &[u8], refusal: u8) -> Found {
     let code = parts::code(line);
-    if refusal == Reading::BAD_FORM {
-        return of_form(line, code);
+    match Refusal::of(refusal) {
+        Some(Refusal::LongLine) => Found::place(text::Span::LONGEST),
+        Some(Refusal::BadForm) => of_form(line, code),
+        Some(Refusal::BigLiteral) => of_literal(code),
+        Some(Refusal::ReservedName) => of_reserved(code),
+        Some(Refusal::Repeated) => Found::place(runs::second(code)),
+        Some(Refusal::Unknown) => of_names(text, code),
+        Some(Refusal::Stored) => of_stored(code),
+        None => Found::place(runs::first(code)),
     }
-    let place = place_of(text, code, refusal);
-    let number = number_of(text, code, place, refusal);
-    at(place, number, runs::key(runs::at(code, place)))
 }

@@ -10,185 +10,101 @@ mod runs;
 pub mod state;
 pub mod trace;
 
-use parts::{Line, Page, writing};
+use parts::{Line, Page};
+use words::{Kind, Part};
 
-// How far a run is told: the next turn, event and record, and the line before them.
-#[derive(Clone, Copy)]
-pub struct Mark {
-    pub turn: usize,
-    pub event: usize,
-    pub record: usize,
-    pub line: Line,
-}
-
-// What is listed where two runs are compared.
-#[derive(Clone, Copy)]
-pub struct Entry {
-    pub number: usize,
-    pub sum: u32,
-}
-
-// The column of what is wrong, from 1; the number of its words, 0 where there are none; and the key of the name that they speak of, or the
-// edition.
-#[derive(Clone, Copy)]
-pub struct Hint {
-    pub column: usize,
-    pub number: u32,
-    pub name: u16,
-}
-
-// How many values a character of a name has.
-const BYTE: u16 = 256;
+// How far what stands below a line is set in.
+const SET_IN: usize = 4;
 
 // How much of a line of a file is shown.
 const MOST_SHOWN: usize = 100;
 
-// Nothing is counted further.
-const MOST_COUNTED: usize = 4294967296;
-
 // A byte of a file or of a name: one that is not plain is shown by its two hexadecimal digits.
-fn plain(mut line: Line, b: u8) -> Line {
-    if (b' ' <= b) & (b <= b'~') {
-        return line.byte(b);
+fn plain(line: Line, b: u8) -> Line {
+    match b {
+        b' '..=b'~' => line.byte(b),
+        _ => part(line, Part::Escape).hex(b),
     }
-    line = part(line, words::ESCAPE);
-    line.hex(b)
 }
 
 // A line of a file, as much of it as is shown.
-pub fn shown(mut line: Line, bytes: &[u8]) -> Line {
-    for i in 0..bytes.len() {
-        if i == MOST_SHOWN {
-            return part(line, words::CUT);
-        }
-        line = plain(line, bytes[i]);
+pub fn shown(line: Line, bytes: &[u8]) -> Line {
+    let start = bytes.iter().take(MOST_SHOWN);
+    let line = start.fold(line, |line, b| plain(line, *b));
+    if bytes.len() <= MOST_SHOWN {
+        return line;
     }
-    line
+    part(line, Part::Cut)
 }
 
-// The name of a file, at the beginning of a page.
-pub fn name(page: &mut Page, path: &[u8]) -> usize {
-    let mut held: usize = 0;
-    for i in 0..path.len() {
-        let mut line = Line::empty();
-        line = plain(line, path[i]);
-        held = line.onto(page, held);
+// The name of a file.
+pub fn name(page: &mut Page, path: &[u8]) {
+    for b in path {
+        plain(Line::empty(), *b).onto(page);
     }
-    held
 }
 
 // The name of a label or of a variable, by its key.
-pub fn key(mut line: Line, key: u16) -> Line {
-    line = line.byte((key % BYTE) as u8);
-    if key < BYTE {
-        return line;
+pub fn key(line: Line, key: u16) -> Line {
+    match key.to_le_bytes() {
+        [only, 0] => line.byte(only),
+        both => line.bytes(&both),
     }
-    line.byte((key / BYTE) as u8)
 }
 
-// A line of the table of words, from a place in it on.
-fn line_of_words(mut line: Line, start: usize) -> Line {
-    for i in 0..words::LONGEST {
-        let b = words::letter_behind(start, i);
-        if b == b'\n' {
-            return line;
-        }
-        line = line.byte(b);
-    }
-    line
+// The line for a number of a kind, as `error 102: ..`; or only what stands behind its colon. Nothing where there is none.
+pub fn words(line: Line, kind: Kind, n: u32) -> Line {
+    line.bytes(words::line_for(kind, n).unwrap_or("").as_bytes())
 }
 
-// The line for a number of a kind, as `error 102: ..`; or only what stands behind its colon.
-pub fn words(line: Line, kind: u8, n: u32) -> Line {
-    line_of_words(line, words::line_for(kind, n))
-}
-
-pub fn meaning(line: Line, kind: u8, n: u32) -> Line {
-    line_of_words(line, words::meaning_for(kind, n))
+pub fn meaning(line: Line, kind: Kind, n: u32) -> Line {
+    line.bytes(words::meaning_for(kind, n).unwrap_or("").as_bytes())
 }
 
 // A part of what the tool says.
-pub fn part(line: Line, n: u32) -> Line {
-    meaning(line, words::PART, n)
+pub fn part(line: Line, part: Part) -> Line {
+    meaning(line, Kind::Part, part as u32)
 }
 
 // Such a part, and a number.
-pub fn part_number(mut line: Line, n: u32, value: u64) -> Line {
-    line = part(line, n);
-    line.number(value)
-}
-
-// The bytes of the table of words from one place to before another, at the beginning of a page.
-pub fn put_words(page: &mut Page, start: usize, end: usize) -> usize {
-    let mut held: usize = 0;
-    for i in start..end {
-        held = writing::put_byte(page, held, words::letter(i));
-    }
-    held
+pub fn part_number(line: Line, said: Part, value: u64) -> Line {
+    part(line, said).number(value)
 }
 
 // What the text on the tool's use says on one command; nothing where it tells of none with this number.
-pub fn help_of(page: &mut Page, command: u32) -> usize {
-    if words::LAST_COMMAND < command {
-        return 0;
+pub fn help_of(page: &mut Page, command: u32) {
+    for line in words::help_of(command) {
+        page.add(line.as_bytes());
+        page.push(b'\n');
     }
-    put_words(
-        page,
-        words::help_place(command),
-        words::help_place(command + 1),
-    )
 }
 
 // What a number of an answer means: as a refusal, as an error and as an end. Nothing for another number.
 pub fn explain(number: u32) -> Line {
-    let mut line = Line::empty();
-    line = explained(line, words::REFUSAL, number);
-    line = explained(line, words::ERROR, number);
-    explained(line, words::END, number)
+    let kinds = [Kind::Refusal, Kind::Error, Kind::End];
+    kinds
+        .into_iter()
+        .fold(Line::empty(), |line, kind| explained(line, kind, number))
 }
 
 // The line for a number of a kind, if there is one, and an example below it; an end needs none. Below an error, what a program then sees.
-fn explained(mut line: Line, kind: u8, number: u32) -> Line {
-    if words::line_for(kind, number) == words::SIZE {
+fn explained(line: Line, kind: Kind, number: u32) -> Line {
+    let Some(said) = words::line_for(kind, number) else {
+        return line;
+    };
+    let line = line.bytes(said.as_bytes()).end();
+    if kind == Kind::End {
         return line;
     }
-    line = words(line, kind, number);
-    line = line.end();
-    if kind == words::END {
+    let line = meaning(line.spaces(SET_IN), Kind::Sample, number).end();
+    if kind == Kind::Refusal {
         return line;
     }
-    line = line.spaces(4);
-    line = meaning(line, words::SAMPLE, number);
-    line = line.end();
-    if kind == words::REFUSAL {
-        return line;
-    }
-    line = line.spaces(4);
-    line = part(line, words::AFTER_ERROR);
-    line = line.end().spaces(4);
-    line = part(line, words::HANDLER);
-    line.end()
+    let line = part(line.spaces(SET_IN), Part::AfterError).end();
+    part(line.spaces(SET_IN), Part::Handler).end()
 }
 
 // A line with spaces behind it, up to a column.
 fn filled(line: Line, column: usize) -> Line {
-    if line.held < column {
-        return line.spaces(column - line.held);
-    }
-    line
-}
-
-// One more and one less, as far as turns, events, records and lines go.
-pub fn one_more(n: usize) -> usize {
-    if n < MOST_COUNTED {
-        return n + 1;
-    }
-    n
-}
-
-fn one_less(n: usize) -> usize {
-    if 0 < n {
-        return n - 1;
-    }
-    0
+    line.spaces(column.saturating_sub(line.len()))
 }

@@ -1,8 +1,12 @@
 // A run told turn by turn: the events, the statement with its line, and what it recorded.
-use crate::Mark;
-use comparing::Compared;
+ghost use Rattle.std.specs.Prelude.{◌+◌, ◌<◌, length, IfSome};
+ghost use Rattle.std.specs.Iterator.{at_most};
+
+use events::script::{SIZE, event_at};
 use events::{Event, Record};
-use parts::{Line, Page, writing};
+use parts::Line;
+use parts::writing::width;
+use words::{Kind, Part};
 
 // The columns: turns, lines and statements, and what stands between two of them.
 const TURN_WIDTH: usize = 9;
@@ -22,253 +26,217 @@ const BEFORE_DASH: usize = TURN_WIDTH - 1;
 // A page that holds this much is full: it has room for one line.
 pub const FULL: usize = parts::PAGE - parts::LINE;
 
-// No turn has this number.
-const NO_TURN: usize = 4294967296;
-
 // How many cells a text makes at the most.
-const CELLS: usize = 256;
+const CELLS: u16 = 256;
 
-// Behind the cells that a run visits, one a turn, stand the lines of all cells, each number in two bytes: so many of them come before.
-const LINES: usize = 8192;
+// The line of each cell of a text, 0 where it has none.
+// Stays: the number is shown as it is, 0 too; an Option would be turned into that 0 at its one use.
+pub type Lines = [usize; CELLS as usize];
 
-// Puts the number of each cell's line behind the cells that a run visits.
-pub fn put_lines(visits: &mut Page, text: &[u8]) {
-    for place in 0..CELLS {
-        let found = translation::line_of(text, place as u16);
-        numbers::write(visits, (LINES + place) * 2, 2, found.line as u64);
-    }
+// The bytes of the cell that a turn visits.
+const VISIT: usize = 2;
+
+// A run of a text: what it was given, what it recorded, and the cells that it visited, one a turn.
+#[derive(Clone, Copy)]
+pub struct Run<'a> {
+    pub text: &'a [u8],
+    pub lines: &'a Lines,
+    pub image: &'a [u8],
+    pub events: &'a [u8],
+    pub records: &'a [u8],
+    pub visits: &'a [u8],
 }
 
-// A number of those by its place among them.
-fn listed(visits: &[u8], k: usize) -> usize {
-    if LINES + CELLS <= k {
-        return 0;
-    }
-    numbers::read2(visits, k * 2) as usize
+// What is left of a run from a turn on, told line by line.
+#[derive(Clone, Copy, Drop)]
+pub struct TurnsLeft<'a> {
+    left: Run<'a>,
+    turn: usize,
 }
 
-// The line of a cell.
-fn line_of(visits: &[u8], cell: usize) -> usize {
-    if CELLS <= cell {
-        return 0;
+// Finds the line of each cell of a text.
+pub fn lines_of(text: &[u8]) -> Lines {
+    let mut lines = [0; CELLS as usize];
+    for (cell, line) in (0..CELLS).zip(lines.iter_mut()) {
+        *line = translation::line_of(text, cell).map_or(0, |placed| placed.line);
     }
-    listed(visits, LINES + cell)
+    lines
 }
 
-// A record or an event by its number; none has a number above the most records.
-pub fn entry(bytes: &[u8], k: usize) -> Event {
-    if Compared::MOST < k {
-        return events::script::event_at(bytes, Compared::MOST);
-    }
-    events::script::event_at(bytes, k)
+// The first of some events or records, and those behind it.
+fn first_of(entries: &[u8]) -> Option<(Event, &[u8])>
+    ensures { IfSome result (λ p. length p.1.now < length entries.now) }
+{
+    let (first, others) = entries.split_at_checked(SIZE)?;
+    Some((event_at(first, 0), others))
 }
 
-// The turn of the record or event with this number; past every turn where there is none.
-fn turn_of(bytes: &[u8], k: usize) -> usize {
-    if events::script::event_count(bytes) <= k {
-        return NO_TURN;
+// The same, where the first is of this turn.
+fn first_in(entries: &[u8], turn: usize) -> Option<(Event, &[u8])>
+    ensures { IfSome result (λ p. length p.1.now < length entries.now) }
+{
+    let (first, others) = first_of(entries)?;
+    if first.turn as usize == turn {
+        return Some((first, others));
     }
-    entry(bytes, k).turn as usize
+    None
 }
 
-// The turn after a stay at one place that begins with this turn. A turn that records something is one by itself; the stay ends
-// before the next such turn, and before the next event.
-fn stay_end(visits: &[u8], turns: usize, turn: usize, record: usize, event: usize) -> usize {
-    if record == turn {
-        return crate::one_more(turn);
+// How many turns there are from this one to before that of the first of some events or records.
+fn turns_before(entries: &[u8], turn: usize) -> usize {
+    match first_of(entries) {
+        Some((first, _)) => (first.turn as usize).saturating_sub(turn),
+        None => usize::MAX,
     }
-    let place = listed(visits, turn);
-    let mut end = turn;
-    while end < turns {
-        end += 1;
-        if (end == record) | (end == event) | (listed(visits, end) != place) {
-            return end;
-        }
-    }
-    end
 }
 
 // The column of turns: one turn, or the first and the last of several.
-fn turns_of(turn: u64, last: u64) -> Line {
-    let mut line = Line::empty();
+fn turns_of(turn: usize, last: usize) -> Line {
+    let line = Line::empty();
     if last <= turn {
-        return line.number_to(turn, TURN_WIDTH);
+        return line.number_to(turn as u64, TURN_WIDTH);
     }
-    let used = writing::width(last);
-    if used < BEFORE_DASH {
-        line = line.number_to(turn, BEFORE_DASH - used);
-    }
-    line = line.byte(b'-');
-    line.number(last)
+    let last = last as u64;
+    let before = BEFORE_DASH.saturating_sub(width(last));
+    line.number_to(turn as u64, before).byte(b'-').number(last)
 }
 
 // An event in words: its kind, its number where it has one, and its value unless a move arrives.
-fn event_in_words(mut line: Line, event: Event) -> Line {
-    line = crate::meaning(line, words::KIND_OF_EVENT, event.kind as u32);
+fn event_in_words(line: Line, event: Event) -> Line {
+    let mut line = crate::meaning(line, Kind::Event, event.kind as u32);
     if event.kind == Event::ARRIVAL {
         return line;
     }
     if event.number != 0 {
-        line = line.byte(b' ');
-        line = line.number(event.number as u64);
+        line = line.byte(b' ').number(event.number as u64);
     }
-    line = crate::part(line, words::EQUALS);
-    line.signed(event.value)
+    crate::part(line, Part::Equals).signed(event.value)
 }
 
 // The line of an event.
 fn event_line(event: Event) -> Line {
-    let mut line = Line::empty();
-    line = line.number_to(event.turn as u64, TURN_WIDTH);
-    line = line.spaces(GAP + LINE_WIDTH + GAP);
-    line = crate::part(line, words::EVENT_ROW);
-    line = event_in_words(line, event);
-    line.end()
+    let line = Line::empty()
+        .number_to(event.turn as u64, TURN_WIDTH)
+        .spaces(GAP + LINE_WIDTH + GAP);
+    event_in_words(crate::part(line, Part::EventRow), event).end()
 }
 
 // The output of a record, or the variable that was printed.
-fn source(mut line: Line, image: &[u8], kind: u8, number: u8) -> Line {
+fn source(line: Line, image: &[u8], record: Event) -> Line {
+    let number = record.number;
     if number == 0 {
         return line;
     }
-    if kind == Record::PRINTED {
-        line = variable(line, printing::variable_key(image, number), number);
-        return crate::part(line, words::EQUALS);
-    }
-    line = line.number(number as u64);
-    crate::part(line, words::EQUALS)
+    let line = match record.kind {
+        Record::PRINTED => variable(line, printing::variable_key(image, number), number),
+        _ => line.number(number as u64),
+    };
+    crate::part(line, Part::Equals)
 }
 
 // A variable by the key of its name; one that has none, by its number.
+// Stays: 0 for no name is what `printing::variable_key` ensures, by `key` of crates/program/specs/Code.antt.
 fn variable(line: Line, key: u16, number: u8) -> Line {
-    if key == 0 {
-        return crate::part_number(line, words::VARIABLE, number as u64);
+    match key {
+        0 => crate::part_number(line, Part::Variable, number as u64),
+        _ => crate::key(line, key),
     }
-    crate::key(line, key)
 }
 
 // The kind of a record; one that no record of a run has, by its number.
-fn kind(mut line: Line, kind: u8) -> Line {
-    if (kind < Record::OUTPUT) | (Record::FAILED < kind) {
-        line = crate::part_number(line, words::KIND, kind as u64);
-        return line.byte(b' ');
+fn kind(line: Line, kind: u8) -> Line {
+    match kind {
+        Record::OUTPUT..=Record::FAILED => crate::meaning(line, Kind::Record, kind as u32),
+        _ => crate::part_number(line, Part::Kind, kind as u64).byte(b' '),
     }
-    crate::meaning(line, words::KIND_OF_RECORD, kind as u32)
 }
 
 // A record in short: its kind, what it is of, and its value.
-pub fn short(mut line: Line, image: &[u8], record: Event) -> Line {
-    line = kind(line, record.kind);
-    line = source(line, image, record.kind, record.number);
-    line.signed(record.value)
+pub fn short(line: Line, image: &[u8], record: Event) -> Line {
+    source(kind(line, record.kind), image, record).signed(record.value)
 }
 
 // A record in words: an error with its meaning, or any other in short.
 fn record_in_words(line: Line, image: &[u8], record: Event) -> Line {
-    if record.kind == Record::FAILED {
-        return crate::words(line, words::ERROR, numbers::digits(record.value));
-    }
-    short(line, image, record)
-}
-
-// The statement of a turn or of a stay at a line of a text, with its turns and the line's number.
-fn row(text: &[u8], number: usize, turn: usize, end: usize) -> Line {
-    let statement = parts::uncommented(parts::line_of(text, number));
-    let mut line = turns_of(turn as u64, crate::one_less(end) as u64);
-    line = line.spaces(GAP);
-    line = line.number_to(number as u64, LINE_WIDTH);
-    line = line.spaces(GAP);
-    line.bytes(statement)
-}
-
-// What a turn recorded, in its column.
-fn recorded(mut line: Line, image: &[u8], record: Event) -> Line {
-    line = crate::filled(line, RECORD_COLUMN);
-    line = line.spaces(GAP);
-    record_in_words(line, image, record)
-}
-
-// An event of the turn that is next.
-fn event_next(mark: Mark, events: &[u8]) -> Mark {
-    Mark {
-        turn: mark.turn,
-        event: crate::one_more(mark.event),
-        record: mark.record,
-        line: event_line(entry(events, mark.event)),
+    match record.kind {
+        Record::FAILED => crate::words(line, Kind::Error, numbers::digits(record.value)),
+        _ => short(line, image, record),
     }
 }
 
-// A turn or a stay at one place, up to before another turn.
-fn turn_next(mark: Mark, end: usize, mut line: Line, image: &[u8], records: &[u8]) -> Mark {
-    let mut record = mark.record;
-    if turn_of(records, record) == mark.turn {
-        line = recorded(line, image, entry(records, record));
-        record = crate::one_more(record);
+// A record with its turn, where records alone are told.
+pub fn record_line(image: &[u8], record: Event) -> Line {
+    let line = Line::empty()
+        .number_to(record.turn as u64, TURN_WIDTH)
+        .spaces(GAP);
+    record_in_words(line, image, record).end()
+}
+
+// What stands above the turns.
+pub fn header() -> Line {
+    crate::part(Line::empty(), Part::Header).end()
+}
+
+impl<'a> Run<'a> {
+    // The run from its first turn on.
+    pub fn told(self) -> TurnsLeft<'a> {
+        TurnsLeft {
+            left: self,
+            turn: 0,
+        }
     }
-    Mark {
-        turn: end,
-        event: mark.event,
-        record,
-        line: line.end(),
+
+    // How many turns more the run stays at the place of a turn, in front of the visits behind it. A turn that records something is one by itself; the
+    // stay ends before the next such turn, and before the next event.
+    fn more_turns(self, turn: usize, place: &[u8], others: &[u8]) -> usize {
+        let most = turns_before(self.events, turn).min(turns_before(self.records, turn));
+        let visits = others.chunks_exact(VISIT).take(most.saturating_sub(1));
+        visits.take_while(|visit| *visit == place).count()
+    }
+
+    // The statement of a turn or of a stay at a place, with its turns and its line's number.
+    fn row(self, place: &[u8], turn: usize, last: usize) -> Line {
+        let lines = self.lines;
+        let cell = numbers::read2(place, 0) as usize;
+        let number = lines.get(cell).copied().unwrap_or(0);
+        let statement = parts::uncommented(parts::line_of(self.text, number));
+        turns_of(turn, last)
+            .spaces(GAP)
+            .number_to(number as u64, LINE_WIDTH)
+            .spaces(GAP)
+            .bytes(statement)
+    }
+
+    // What a turn recorded, in its column.
+    fn recorded(self, line: Line, record: Event) -> Line {
+        let line = crate::filled(line, RECORD_COLUMN).spaces(GAP);
+        record_in_words(line, self.image, record)
     }
 }
 
-// A record with its turn, where those alone are told; they are counted as turns.
-fn record_next(mark: Mark, image: &[u8], records: &[u8]) -> Mark {
-    Mark {
-        turn: crate::one_more(mark.turn),
-        event: mark.event,
-        record: mark.record,
-        line: record_line(image, entry(records, mark.turn)),
-    }
-}
+impl Iterator for TurnsLeft<'_> {
+    type Item = Line;
 
-fn record_line(image: &[u8], record: Event) -> Line {
-    let mut line = Line::empty();
-    line = line.number_to(record.turn as u64, TURN_WIDTH);
-    line = line.spaces(GAP);
-    line = record_in_words(line, image, record);
-    line.end()
-}
+    ghost remaining = { λ s. at_most (length s.left.events.now + length s.left.visits.now) };
 
-// What is next of a run: an event, or else a turn or a stay; a record where no places are given.
-pub fn next(
-    mark: Mark,
-    text: &[u8],
-    image: &[u8],
-    events: &[u8],
-    records: &[u8],
-    visits: &[u8],
-    turns: usize,
-) -> Mark {
-    if visits.len() == 0 {
-        return record_next(mark, image, records);
+    // An event of the turn that is next, or else that turn or a stay at its place.
+    fn next(&mut self) -> Option<Line> {
+        let run = self.left;
+        let turn = self.turn;
+        let (place, others) = run.visits.split_at_checked(VISIT)?;
+        if let Some((event, behind)) = first_in(run.events, turn) {
+            self.left.events = behind;
+            return Some(event_line(event));
+        }
+        let more = run.more_turns(turn, place, others);
+        let last = turn.saturating_add(more);
+        let mut line = run.row(place, turn, last);
+        if let Some((record, behind)) = first_in(run.records, turn) {
+            line = run.recorded(line, record);
+            self.left.records = behind;
+        }
+        self.left.visits = parts::back(others, more.saturating_mul(VISIT));
+        self.turn = last.saturating_add(1);
+        Some(line.end())
     }
-    let event = turn_of(events, mark.event);
-    if event == mark.turn {
-        return event_next(mark, events);
-    }
-    let record = turn_of(records, mark.record);
-    let end = stay_end(visits, turns, mark.turn, record, event);
-    let number = line_of(visits, listed(visits, mark.turn));
-    let row = row(text, number, mark.turn, end);
-    turn_next(mark, end, row, image, records)
-}
-
-// Before the first turn stands a header, where the places of a run are given.
-pub fn start(visits: &[u8]) -> Mark {
-    Mark {
-        turn: 0,
-        event: 0,
-        record: 0,
-        line: header(visits.len() == 0),
-    }
-}
-
-fn header(is_left_out: bool) -> Line {
-    let line = Line::empty();
-    if is_left_out {
-        return line;
-    }
-    crate::part(line, words::HEADER).end()
 }

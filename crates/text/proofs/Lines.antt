@@ -174,6 +174,18 @@ pub lines_end : (s : List ℕ) (at : ℕ) → length s ≤ at → lines (drop at
 unfolding lines
 lines_end s at h = rw (drop_of_length-le s h)
 
+-- A text has no more lines than bytes.
+pub lines_fit : (s : List ℕ) → length (lines s) ≤ length s
+unfolding lines onto_first_line
+lines_fit [] = zero-le
+lines_fit (b ∷ bs) = pick (eqb b 10) (eqb b 13 && eqb (get_or bs 0 0) 10) (lines bs) (lines_fit bs)
+  where
+    pick : (x y : Bool) (more : List (List ℕ)) → length more ≤ length bs → length (cond x ([] ∷ more) (cond y more (onto_first_line b more))) ≤ suc (length bs)
+    pick true y more h = suc-le-suc h
+    pick false true more h = omega (arith, h)
+    pick false false [] h = suc-le-suc zero-le
+    pick false false (l ∷ ls) h = omega (arith, h)
+
 -- The lines of whole lines and of what follows them: those of the first, and those of the second.
 abbrev Ends : List ℕ → Type 0
 Ends xs = get_or (10 ∷ xs) (length xs) 10 ≡ 10

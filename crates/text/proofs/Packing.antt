@@ -9,6 +9,7 @@ use native.Mathlib.Omega.{arith}
 use borrow.Author.Tests.{ne_eqb, ltb-true, lt-leb, le-leb}
 use lib.Dec.{eqb, leb, ltb}
 use lib.ListN.{length, get_or, length-append}
+use Rattle.std.specs.Prelude.{Some, None}
 use Rattle.numbers.specs.Bytes.{Bytes, number}
 use Rattle.numbers.specs.Tests.{all_of}
 use Rattle.program.specs.Names.{digit, letter, word_character}
@@ -16,7 +17,7 @@ use Rattle.program.specs.Code.{key}
 use Rattle.text.specs.Tokens as Paper
 use Rattle.text.specs.Tokens.{tokens, joins, onto_first_token}
 use Rattle.text.specs.Forms.{digits, decimal}
-use Rattle.text.specs.Code.{short_key, pack, pushed, pushed_all, packed, no_tokens, word, no_word, key_with, value_with, more_digits, grown, token_of, ends, scan}
+use Rattle.text.specs.Code.{short_key, pack, pushed, pushed_all, packed, no_tokens, word, no_word, key_with, value_with, grown, token_of, ends, scan}
 use Rattle.text.specs.declared.tokens.Word.{Word}
 use Rattle.text.specs.declared.tokens.Token.{Token}
 use Rattle.text.specs.declared.tokens.Tokens.{Tokens}
@@ -26,7 +27,7 @@ paper w glued = record { chars = w; glued = glued }
 
 -- What the code keeps of the characters w of a token.
 word_of : List ℕ → Word
-word_of w = word (length w) (short_key w) (digits (paper w false)) (cond (digits (paper w false)) (decimal 0 w) 0)
+word_of w = word (length w) (short_key w) (cond (digits (paper w false)) (Some (decimal 0 w)) None)
 
 -- One character more.
 key_more : (w : List ℕ) (c : ℕ) → Bytes w → key_with (length w) (short_key w) c ≡ short_key (w ++ (c ∷ []))
@@ -66,19 +67,18 @@ decimal_snoc v [] c = refl
 decimal_snoc v (a ∷ w) c = decimal_snoc (v * 10 + (a - 48)) w c
 
 value_more : (w : List ℕ) (c : ℕ) (x y : Bool) → ((x && digit c) && ltb (length w) 10) ≡ y
-    → value_with y (cond x (decimal 0 w) 0) c ≡ cond y (decimal 0 (w ++ (c ∷ []))) 0
+    → value_with (length w) (cond x (Some (decimal 0 w)) None) c ≡ cond y (Some (decimal 0 (w ++ (c ∷ [])))) None
 unfolding value_with
-value_more w c x false e = refl
-value_more w c true true e = rw (decimal_snoc 0 w c)
-value_more w c false true e = absurd (let q : ◌≡◌ {A = ℕ} 0 1 = cc in omega arith)
+value_more w c true y e = rw (e, decimal_snoc 0 w c)
+value_more w c false y e = rw (← e)
 
 grown_word : (w : List ℕ) (c : ℕ) → Bytes w → eqb c 32 ≡ false → grown (word_of w) c ≡ word_of (w ++ (c ∷ []))
-unfolding grown more_digits word_of
+unfolding grown word_of
 grown_word w c h e =
     let d = digits_more w c in
     let v = value_more w c (digits (paper w false)) (digits (paper (w ++ (c ∷ [])) false)) d in
     let n : length w + 1 ≡ length (w ++ (c ∷ [])) = sym (length-append w (c ∷ [])) in
-    rw (e, d, v, key_more w c h, n)
+    rw (e, v, key_more w c h, n)
 
 grown_space : (w : Word) (c : ℕ) → eqb c 32 ≡ true → grown w c ≡ w
 unfolding grown

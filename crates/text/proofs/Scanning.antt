@@ -3,84 +3,70 @@
 use mathlib.Core.Path.{◌≡◌, refl, sym, ap, ap₂, ◌∙◌}
 use mathlib.Core.Bool.{Bool, true, false, cond, ◌&&◌, and-true, and-eq-true_iff}
 use mathlib.Core.List.{List, [], ◌∷◌}
-use Prim.Native.Nat.{ℕ, zero, suc, ◌+◌, ◌^◌, ◌≤◌, ◌<◌}
-use native.Mathlib.Nat.{pow-suc, pow-le-pow_right, zero-lt-suc, not-suc-le-zero, le_of_suc-le-suc}
+use Prim.Native.Nat.{ℕ, suc, ◌+◌, ◌*◌, ◌-◌, ◌≤◌, ◌<◌}
+use native.Mathlib.Nat.{pow-suc}
 use native.Mathlib.Numerals.{add-one}
 use native.Mathlib.Omega.{arith}
-use borrow.Author.Tests.{eq-eqb, ne_eqb, lt-ltb, le-ltb, ltb-true, leb-true}
+use borrow.Author.Tests.{lt-ltb, le-ltb, ltb-false, leb-true}
 use lib.Dec.{eqb, leb, ltb}
 use lib.ListN.{length, take, drop, get_or, set, drop_of_length-le}
 use lib.Seq.{drop-cons, get_or-drop}
+use Rattle.std.specs.Prelude.{Option, Some, None, unwrap_or}
+use Rattle.std.specs.List.{position, position_or_len}
+use Rattle.std.proofs.lemmas.List.Recursion.{is_position_or_len}
 use Rattle.numbers.specs.Tests.{all_of}
 use Rattle.numbers.proofs.Truth.{of_both}
 use Rattle.program.specs.Names.{digit}
 use Rattle.text.specs.Tokens.{printable, uncommented}
-use Rattle.text.specs.Code.{Room, more_digits, value_with, word, key_with, grown, token_of, ends, no_word, no_tokens, tokens_with, pushed, scan}
+use Rattle.text.specs.Code.{Small, value_with, word, key_with, grown, token_of, ends, no_word, tokens_with, pushed, scan}
 use Rattle.text.specs.declared.tokens.Word.{Word}
 use Rattle.text.specs.declared.tokens.Token.{Token}
 use Rattle.text.specs.declared.tokens.Tokens.{Tokens}
-
--- What stands at a place of a list does not hang on what stands past its end.
-pub inside : (l : List ℕ) (i x y : ℕ) → i < length l → get_or l i x ≡ get_or l i y
-inside [] i x y h = absurd (not-suc-le-zero h)
-inside (b ∷ bs) zero x y h = refl
-inside (b ∷ bs) (suc i) x y h = inside bs i x y (le_of_suc-le-suc h)
 
 -- Tests that hold together.
 digit_size : (c : ℕ) → digit c ≡ true → (47 < c) × (c < 58)
 unfolding digit
 digit_size c e = let p = (and-eq-true_iff (leb 48 c) (leb c 57)).0 e in (omega (arith, leb-true 48 c p.0), omega (arith, leb-true c 57 p.1))
 
--- One digit more of a number that is small enough.
-digit_more : (w : Word) (c : ℕ) → Room w → more_digits w c ≡ true → (w.value < 1000000000) × (47 < c)
-unfolding more_digits
-digit_more w c r e =
-    let p = (and-eq-true_iff (w.digits && digit c) (ltb w.size 10)).0 e in
-    let d = digit_size c ((and-eq-true_iff w.digits (digit c)).0 p.0).1 in
-    let s : w.size ≤ 9 = omega (arith, ltb-true w.size 10 p.1) in
-    let q : 10 ^ w.size ≤ 10 ^ 9 = pow-le-pow_right (zero-lt-suc 9) s in
-    (omega (arith, r.small), d.0)
+-- A digit is not below `0`.
+pub digit_above : (c : ℕ) (d r : Bool) → d ≡ digit c → (d && r) ≡ true → 48 ≤ c
+digit_above c d r p e = (digit_size c (sym p ∙ ((and-eq-true_iff d r).0 e).0)).0
 
-value_small : (w : Word) (c : ℕ) (t : Bool) → more_digits w c ≡ t → w.value < 10 ^ w.size → value_with t w.value c < 10 ^ (w.size + 1)
-unfolding more_digits value_with
-value_small w c false e h = let p : 10 ^ 0 ≤ 10 ^ (w.size + 1) = pow-le-pow_right (zero-lt-suc 9) {i = 0} (omega arith) in p
-value_small w c true e h =
-    let p = (and-eq-true_iff (w.digits && digit c) (ltb w.size 10)).0 e in
-    let d = digit_size c ((and-eq-true_iff w.digits (digit c)).0 p.0).1 in
-    rw (add-one, pow-suc) (omega arith)
+-- The number with one character more: a digit where there is room for one; else none.
+pub digit_more : (size v c : ℕ) {d : Bool} {k : ℕ} → d ≡ digit c → (d && ltb size 10) ≡ true → k ≡ c - 48 → Some (v * 10 + k) ≡ value_with size (Some v) c
+unfolding value_with
+digit_more size v c {d} {k} p e q = rw (← p, e, q)
 
--- One character more, by its parts.
-pub grown_is : (w : Word) (c : ℕ) {d : Bool} {k v : ℕ} → eqb c 32 ≡ false → d ≡ digit c → k ≡ key_with w.size w.key c
-    → v ≡ value_with ((w.digits && d) && ltb w.size 10) w.value c
-    → word (w.size + 1) k ((w.digits && d) && ltb w.size 10) v ≡ grown w c
-unfolding grown more_digits
-grown_is w c e p q r = rw (e, q, r, p)
+pub digit_none : (size v c : ℕ) {d : Bool} → d ≡ digit c → (d && ltb size 10) ≡ false → None ≡ value_with size (Some v) c
+unfolding value_with
+digit_none size v c {d} p e = rw (← p, e)
 
-pub digits_more : (w : Word) (c : ℕ) {d : Bool} → d ≡ digit c → Room w → ((w.digits && d) && ltb w.size 10) ≡ true → (w.value < 1000000000) × (47 < c)
-unfolding more_digits
-digits_more w c p r e = digit_more w c r (rw p at e)
+value_small : (size : ℕ) (value : Option ℕ) (c : ℕ) → Small size value → Small (size + 1) (value_with size value c)
+unfolding value_with
+value_small size None c h = tt
+value_small size (Some v) c h = pick (digit c && ltb size 10) refl
+  where
+    pick : (t : Bool) → (digit c && ltb size 10) ≡ t → Small (size + 1) (cond t (Some (v * 10 + (c - 48))) None)
+    pick false e = tt
+    pick true e = let d = digit_size c ((and-eq-true_iff (digit c) (ltb size 10)).0 e).0 in rw (add-one, pow-suc) (omega arith)
 
 -- The characters that are read so far are no more than the bytes that are passed, and their number stays small.
-pub grown_room : (w : Word) (c : ℕ) → w.value < 10 ^ w.size → ((grown w c).size ≤ suc w.size) × ((grown w c).value < 10 ^ (grown w c).size)
+pub grown_room : (w : Word) (c : ℕ) → Small w.size w.value → ((grown w c).size ≤ suc w.size) × Small (grown w c).size (grown w c).value
 unfolding grown
 grown_room w c h = pick (eqb c 32)
   where
     v : Word
-    v = word (w.size + 1) (key_with w.size w.key c) (more_digits w c) (value_with (more_digits w c) w.value c)
+    v = word (w.size + 1) (key_with w.size w.key c) (value_with w.size w.value c)
 
-    pick : (t : Bool) → ((cond t w v).size ≤ suc w.size) × ((cond t w v).value < 10 ^ (cond t w v).size)
+    pick : (t : Bool) → ((cond t w v).size ≤ suc w.size) × Small (cond t w v).size (cond t w v).value
     pick true = (omega arith, h)
-    pick false = (omega arith, value_small w c (more_digits w c) refl h)
+    pick false = (omega arith, value_small w.size w.value c h)
 
-pub grown_fits : (w : Word) (c : ℕ) {v : Word} → v ≡ grown w c → w.value < 10 ^ w.size → (v.size ≤ suc w.size) × (v.value < 10 ^ v.size)
+pub grown_fits : (w : Word) (c : ℕ) {v : Word} → v ≡ grown w c → Small w.size w.value → (v.size ≤ suc w.size) × Small v.size v.value
 grown_fits w c e h = rw e (grown_room w c h)
 
-pub none_fits : {w : Word} → w ≡ no_word → (w.size ≤ 0) × (w.value < 10 ^ w.size)
+pub none_fits : {w : Word} → w ≡ no_word → (w.size ≤ 0) × Small w.size w.value
 none_fits e = rw e (omega arith, omega arith)
-
-pub scan_start : (l : List ℕ) {ts : Tokens} {w : Word} → ts ≡ no_tokens → w ≡ no_word
-    → (w.size ≤ 0) × (w.value < 10 ^ w.size) × (scan ts w l ≡ scan no_tokens no_word l)
-scan_start l p q = ((none_fits q).0, (none_fits q).1, rw (p, q))
 
 -- A character passed, where it ends no token and where it does; and the end.
 module _ (l : List ℕ) (ts : Tokens) (w : Word) (i : ℕ) where
@@ -135,20 +121,7 @@ module _ (l : List ℕ) (i : ℕ) where
   unfolding all_of
   printable_end all h = rw (drop_of_length-le l h) (sym (and-true all))
 
-  -- What stands before the comment, one byte after the other.
-  pub code_more : i < length l → (get_or l i 0 ≡ 39 → ⊥) → length (uncommented (drop i l)) ≡ suc (length (uncommented (drop (suc i) l)))
-  unfolding uncommented
-  code_more h e = rw (drop-cons l i 0 h, ne_eqb _ _ e)
-
-  pub code_stop : i < length l → get_or l i 0 ≡ 39 → length (uncommented (drop i l)) ≡ 0
-  unfolding uncommented
-  code_stop h e = rw (drop-cons l i 0 h, eq-eqb _ _ e)
-
-  pub code_end : length l ≤ i → length (uncommented (drop i l)) ≡ 0
-  unfolding uncommented
-  code_end h = rw (drop_of_length-le l h)
-
--- It is a part of the line.
+-- What stands before the comment is a part of the line.
 pub code_part : (l : List ℕ) → (uncommented l ≡ take (length (uncommented l)) l) × (length (uncommented l) ≤ length l)
 unfolding uncommented
 code_part [] = (refl, omega arith)
@@ -158,3 +131,22 @@ code_part (c ∷ cs) = pick (eqb c 39) (code_part cs)
         → (cond t [] (c ∷ uncommented cs) ≡ take (length (cond t [] (c ∷ uncommented cs))) (c ∷ cs)) × (length (cond t [] (c ∷ uncommented cs)) ≤ suc (length cs))
     pick true h = (refl, omega arith)
     pick false h = (ap (λ (x : List ℕ). c ∷ x) h.0, omega (arith, h.1))
+
+-- It ends where the first apostrophe stands.
+code_until : (l : List ℕ) → length (uncommented l) ≡ position_or_len (λ c. eqb c 39) l
+unfolding uncommented
+code_until l = is_position_or_len (λ l. length (uncommented l)) (λ c. eqb c 39) refl (λ c cs. pick (eqb c 39) c (uncommented cs)) l
+  where
+    pick : (t : Bool) (c : ℕ) (more : List ℕ) → length (cond t [] (c ∷ more)) ≡ cond t 0 (1 + length more)
+    pick true c more = refl
+    pick false c more = omega arith
+
+pub code_position : (l : List ℕ) → unwrap_or (position (λ c. eqb c 39) l) (length l) ≡ length (uncommented l)
+code_position l = pick (ltb n (length l)) refl ∙ sym (code_until l)
+  where
+    n : ℕ
+    n = position_or_len (λ c. eqb c 39) l
+
+    pick : (t : Bool) → ltb n (length l) ≡ t → unwrap_or (cond t (Some n) None) (length l) ≡ n
+    pick true e = refl
+    pick false e = omega (arith, ltb-false n (length l) e, code_until l, (code_part l).1)

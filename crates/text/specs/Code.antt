@@ -1,6 +1,8 @@
 -- What the code holds of a text, its lines and their tokens, in its own shape. No demand reaches this; proofs/ ties it to the definitions of the paper.
 -- Assumes nothing.
 use Rattle.std.specs.Prelude.{◌≡◌, Bool, true, false, cond, ◌&&◌, ◌||◌, not, List, [], ◌∷◌, ◌⊎◌, ℕ, zero, suc, ◌+◌, ◌*◌, ◌-◌, ◌%◌, ◌^◌, ◌≤◌, ◌<◌, eqb, leb, ltb, length, take, drop, get_or, set, replicate}
+use Rattle.std.specs.Prelude as Std
+use Rattle.std.specs.Prelude.{Some, None, IfSome}
 use Rattle.std.proofs.Math.Option.{Option, none, some}
 use Rattle.program.specs.Names.{Name, digit}
 use Rattle.program.specs.Code.{key, name_of}
@@ -44,14 +46,14 @@ unfoldable pub short_key : Name → ℕ
 short_key w = cond (leb (length w) 2) (key w) 0
 
 -- What the code keeps of a token.
-abbrev pub token : ℕ → Bool → ℕ → Bool → Token
-token key digits value glued = record { key = key; digits = digits; value = value; glued = glued }
+abbrev pub token : ℕ → Std.Option ℕ → Bool → Token
+token key value glued = record { key = key; value = value; glued = glued }
 
 unfoldable pub pack : Paper.Token → Token
-pack t = token (short_key t.chars) (digits t) (cond (digits t) (decimal 0 t.chars) 0) t.glued
+pack t = token (short_key t.chars) (cond (digits t) (Some (decimal 0 t.chars)) None) t.glued
 
 abbrev pub no_token : Token
-no_token = token 0 false 0 false
+no_token = token 0 None false
 
 -- The token at a place; none past the last.
 unfoldable pub token_at : List Token → ℕ → Token
@@ -74,33 +76,35 @@ pushed_all ts (u ∷ us) = pushed_all (pushed ts (pack u)) us
 unfoldable pub packed : List Paper.Token → Tokens
 packed us = pushed_all no_tokens us
 
--- The characters of a token that are read so far: how many, their key, whether they are at most 10 digits, and the number that these write.
-abbrev pub word : ℕ → ℕ → Bool → ℕ → Word
-word size key digits value = record { size = size; key = key; digits = digits; value = value }
+-- The characters of a token that are read so far: how many, their key, and the number that they write where they are at most 10 digits.
+abbrev pub word : ℕ → ℕ → Std.Option ℕ → Word
+word size key value = record { size = size; key = key; value = value }
 
 abbrev pub no_word : Word
-no_word = word 0 0 true 0
+no_word = word 0 0 (Some 0)
+
+-- Digits write a number that is below the power of ten of their count.
+abbrev pub Small : ℕ → Std.Option ℕ → Type 0
+Small size value = IfSome value (λ v. v < 10 ^ size)
 
 -- There is room for one more character.
 pub record Room (w : Word) : Type 0 where
   pub counts : w.size + 1 < 2 ^ 64
-  pub small : w.value < 10 ^ w.size
+  pub small : Small w.size w.value
 
 unfoldable pub key_with : ℕ → ℕ → ℕ → ℕ
 key_with size key c = cond (eqb size 0) c (cond (eqb size 1) (key % 256 + 256 * c) 0)
 
-unfoldable pub value_with : Bool → ℕ → ℕ → ℕ
-value_with digits value c = cond digits (value * 10 + (c - 48)) 0
-
-unfoldable pub more_digits : Word → ℕ → Bool
-more_digits w c = (w.digits && digit c) && ltb w.size 10
+unfoldable pub value_with : ℕ → Std.Option ℕ → ℕ → Std.Option ℕ
+value_with size None c = None
+value_with size (Some v) c = cond (digit c && ltb size 10) (Some (v * 10 + (c - 48))) None
 
 -- One character more; a space is none.
 unfoldable pub grown : Word → ℕ → Word
-grown w c = cond (eqb c 32) w (word (w.size + 1) (key_with w.size w.key c) (more_digits w c) (value_with (more_digits w c) w.value c))
+grown w c = cond (eqb c 32) w (word (w.size + 1) (key_with w.size w.key c) (value_with w.size w.value c))
 
 abbrev pub token_of : Word → ℕ → Token
-token_of w next = token w.key w.digits w.value (not (eqb next 32))
+token_of w next = token w.key w.value (not (eqb next 32))
 
 -- A token ends with the character c, with this one behind it.
 unfoldable pub ends : ℕ → ℕ → Bool

@@ -1,39 +1,39 @@
 // The tokens of a line.
-ghost use Rattle.std.specs.Prelude.{◌≡◌, true, ◌<◌, length, get_or};
+ghost use Rattle.std.specs.Prelude.{◌≡◌, ◌==◌, length, get_or, position};
 ghost use Rattle.numbers.specs.Tests.{all_of};
 ghost use Rattle.program.specs.Names.{word_character};
 ghost use Rattle.text.specs.Tokens.{printable, uncommented, tokens, joins};
-ghost use Rattle.text.specs.Code.{no_word, Room, key_with, value_with, grown, token_of, ends, no_token, no_tokens, packed};
+ghost use Rattle.text.specs.Code.{no_word, Small, Room, key_with, value_with, grown, token_of, ends, no_token, no_tokens, packed};
 
 use program::names;
 
 // How many values a character of a key has.
 const BYTE: u16 = 256;
 
-// A token: its characters as a key, 0 where there are more than two; whether they are at most `MOST_DIGITS` digits, and the number that these write;
+// A token: its characters as a key, 0 where there are more than two; the number that they write, where they are at most `MOST_DIGITS` digits;
 // and whether another token follows it directly.
+// Stays: key 0 is no name and no sign, so no form takes it, and each slot compares keys and asks no case: `short_key` (specs/Code.antt) gives it.
 #[derive(Clone, Copy)]
 pub struct Token {
-    pub value: u64,
+    pub value: Option<u64>,
     pub key: u16,
-    pub digits: bool,
     pub glued: bool,
 }
 
 // The first tokens of a line, at most `MOST`, which are more than any statement has. The places behind them hold none; no form looks further.
+// Stays: no call can fail, so there is no heap; the room is fixed, and `count` tells a form whose slots take all tokens from one that leaves some.
 #[derive(Clone, Copy)]
 pub struct Tokens {
     pub at: [Token; 12],
     pub count: usize,
 }
 
-// The characters of a token that are read so far.
+// The characters of a token that are read so far: how many, their key, and the number that they write, where they are at most `MOST_DIGITS` digits.
 #[derive(Clone, Copy)]
 pub struct Word {
     pub size: usize,
     pub key: u16,
-    pub digits: bool,
-    pub value: u64,
+    pub value: Option<u64>,
 }
 
 impl Tokens {
@@ -57,8 +57,7 @@ impl Token {
     {
         Token {
             key: 0,
-            digits: false,
-            value: 0,
+            value: None,
             glued: false,
         }
     }
@@ -71,8 +70,7 @@ impl Word {
         Word {
             size: 0,
             key: 0,
-            digits: true,
-            value: 0,
+            value: Some(0),
         }
     }
 
@@ -84,12 +82,10 @@ impl Word {
         if c == b' ' {
             return self;
         }
-        let digits = self.digits & names::is_digit(c) & (self.size < Token::MOST_DIGITS);
         Word {
             size: self.size + 1,
             key: key_with(self.size, self.key, c),
-            digits,
-            value: value_with(digits, self.value, c),
+            value: value_with(self.size, self.value, c),
         }
     }
 
@@ -99,7 +95,6 @@ impl Word {
     {
         Token {
             key: self.key,
-            digits: self.digits,
             value: self.value,
             glued: next != b' ',
         }
@@ -110,24 +105,23 @@ impl Word {
 fn key_with(size: usize, key: u16, c: u8) -> u16
     ensures { result ≡ key_with size key c }
 {
-    if size == 0 {
-        return c as u16;
+    match size {
+        0 => u16::from(c),
+        1 => key % BYTE + BYTE * u16::from(c),
+        _ => 0,
     }
-    if size == 1 {
-        return key % BYTE + BYTE * (c as u16);
-    }
-    0
 }
 
-// The number that digits write with one more.
-fn value_with(digits: bool, value: u64, c: u8) -> u64
-    requires { digits ≡ true → (value < 1000000000) × (47 < c) }
-    ensures { result ≡ value_with digits value c }
+// The number that `size` characters write with one more.
+fn value_with(size: usize, value: Option<u64>, c: u8) -> Option<u64>
+    requires { Small size value }
+    ensures { result ≡ value_with size value c }
 {
-    if digits {
-        return value * 10 + ((c - b'0') as u64);
+    let value = value?;
+    if names::is_digit(c) & (size < Token::MOST_DIGITS) {
+        return Some(value * 10 + u64::from(c - b'0'));
     }
-    0
+    None
 }
 
 fn is_word_character(c: u8) -> bool
@@ -155,10 +149,7 @@ fn ends(c: u8, next: u8) -> bool
 fn character(l: &[u8], at: usize) -> u8
     ensures { result ≡ get_or l.now at 32 }
 {
-    if at < l.len() {
-        return l[at];
-    }
-    b' '
+    l.get(at).copied().unwrap_or(b' ')
 }
 
 // The bytes that a line may hold.
@@ -173,26 +164,24 @@ pub fn is_printable(l: &[u8]) -> bool
     ensures { result ≡ all_of printable l.now }
 {
     let mut all = true;
-    let mut i: usize = 0;
-    while i < l.len() {
-        all = all & is_allowed(l[i]);
-        i += 1;
+    for b in l {
+        all &= is_allowed(*b);
     }
     all
+}
+
+// Where the comment of a line starts, if it has one.
+fn comment_start(l: &[u8]) -> Option<usize>
+    ensures { result ≡ position (λ c. c == 39) l.now }
+{
+    l.iter().position(|c| *c == b'\'')
 }
 
 // How many bytes of a line stand before its comment.
 pub fn code_length(l: &[u8]) -> usize
     ensures { result ≡ length (uncommented l.now) }
 {
-    let mut i: usize = 0;
-    while i < l.len() {
-        if l[i] == b'\'' {
-            return i;
-        }
-        i += 1;
-    }
-    i
+    comment_start(l).unwrap_or(l.len())
 }
 
 // The first tokens of a line without its comment.
@@ -201,13 +190,10 @@ pub fn read_tokens(l: &[u8]) -> Tokens
 {
     let mut ts = Tokens::none();
     let mut w = Word::none();
-    let mut i: usize = 0;
-    while i < l.len() {
-        let c = l[i];
-        i += 1;
-        let next = character(l, i);
-        w = w.grown(c);
-        if ends(c, next) {
+    for (i, c) in l.iter().enumerate() {
+        let next = character(l, i + 1);
+        w = w.grown(*c);
+        if ends(*c, next) {
             let n = ts.count;
             if Tokens::MOST <= n {
                 return ts;

@@ -8,18 +8,22 @@ use native.Mathlib.Omega.{arith}
 use borrow.Author.Tests.{not-false}
 use lib.Dec.{eqb}
 use lib.ListN.{length}
+use Rattle.numbers.specs.Tests.{any_of}
 use Rattle.numbers.proofs.Truth.{neither}
 use Rattle.program.specs.Names.{Name, paper_variable}
-use Rattle.program.specs.Code.{name_of}
+use Rattle.program.specs.Code.{key, name_of}
+use Rattle.program.specs.Cells.{cell_of}
+use Rattle.program.specs.Statements.{Statement, operands}
 use Rattle.program.specs.declared.Operand.{Operand}
 use Rattle.program.specs.declared.Operand.TheVariants as O
-use Rattle.text.specs.Forms.{Line}
-use Rattle.text.specs.Faults.{said, makes_label, makes_variable, first_makes, undeclared, unknown_variable, unknown_value, place_of, number_of}
-use Rattle.reading.specs.Code.{said_by, aims_at, in_operand, placed, written, operand_with, resolved}
-use Rattle.reading.proofs.Heard.{Fine, undeclared_asked}
+use Rattle.text.specs.Forms.{Acts}
+use Rattle.text.specs.Faults.{big_value, said, makes_label, makes_variable, first_makes, undeclared, unknown_variable, unknown_value, place_of, number_of}
+use Rattle.text.proofs.Filled.{Named}
+use Rattle.reading.specs.Code.{in_cell, said_by, aims_at, in_operand, placed, written, operand_with, resolved}
+use Rattle.reading.proofs.Heard.{undeclared_asked}
 use Rattle.rows.specs.Rows.{Row, kind, row_at, arranged}
 use Rattle.names.proofs.Arranging.{sought, near}
-use Rattle.translation.specs.Code.{place_in, number_in, Low}
+use Rattle.translation.specs.Resolving.{place_in, number_in, Low}
 
 module _ (s : List ℕ) where
   abbrev R : List Row
@@ -67,12 +71,13 @@ module _ (s : List ℕ) where
   operand_known (O.Literal z) h = refl
   operand_known (O.Variable k) h = ap O.Variable (number_known (name_of k) h)
 
-  -- The cell of a line whose names are declared.
-  pub cell_known : (x : Line) → Fine x → undeclared (said s) x ≡ false
-      → resolved (place_in R) (number_in R) (said_by x).cell ≡ resolved (place_of (said s)) (number_of (said s)) (said_by x).cell
-  cell_known x f h =
-      let c = (said_by x).cell in
-      let a = neither (aims_at c.target && not (first_makes makes_label (name_of c.target) (said s))) _ (sym (undeclared_asked (said s) x f) ∙ h) in
+  -- The cell of a statement whose names are declared.
+  pub cell_known : (t : Statement Name) → Named t → any_of big_value (operands t) ≡ false → undeclared (said s) (Acts t) ≡ false
+      → resolved (place_in R) (number_in R) (cell_of key key t) ≡ resolved (place_of (said s)) (number_of (said s)) (cell_of key key t)
+  unfolding in_cell said_by
+  cell_known t n f h =
+      let c = cell_of key key t in
+      let a = neither (aims_at c.target && not (first_makes makes_label (name_of c.target) (said s))) _ (sym (undeclared_asked (said s) (Acts t) (n, f)) ∙ h) in
       let b = neither (not (eqb c.written 0) && unknown_variable (said s) (name_of c.written)) _ a.1 in
       let d = neither (in_operand (unknown_value (said s)) c.left) (in_operand (unknown_value (said s)) c.right) b.1 in
       rw (target_known c.target a.0, written_known c.written b.0, operand_known c.left d.0, operand_known c.right d.1)

@@ -1,7 +1,7 @@
 -- The line that makes a cell, sought line by line: what seeking from here on finds, seeking in the whole text does.
 -- Assumes nothing.
 use mathlib.Core.Path.{◌≡◌, refl, sym, ap, ◌∙◌}
-use mathlib.Core.Bool.{true, false, ◌&&◌}
+use mathlib.Core.Bool.{Bool, true, false, ◌&&◌}
 use mathlib.Core.List.{List, [], ◌∷◌, ◌++◌}
 use Prim.Native.Nat.{ℕ, zero, suc, ◌+◌, ◌-◌, ◌≤◌, ◌<◌}
 use native.Mathlib.Numerals.{add-one}
@@ -10,15 +10,16 @@ use borrow.Author.Tests.{ne_eqb}
 use lib.Dec.{eqb}
 use lib.ListN.{length, take, drop, get_or, length-append}
 use lib.Seq.{take_at, get_or_at}
+use Rattle.std.specs.Prelude.{Some, None}
 use Rattle.text.specs.Lines.{lines}
 use Rattle.text.specs.Forms.{Line, Blank, Label, Declared, Acts}
 use Rattle.text.specs.Faults.{heard, said, how_many, makes_cell}
 use Rattle.text.specs.Code.{Starts, LineAt}
-use Rattle.reading.specs.Code.{reading_of}
+use Rattle.reading.specs.Code.{Reading, told_by, in_cell, reading_of}
 use Rattle.text.specs.declared.Span.{Span}
-use Rattle.reading.specs.declared.Reading.{Reading}
+use Rattle.reading.specs.declared.Said.{Said}
 use Rattle.text.proofs.Lines.{starts_first, lines_split, lines_next}
-use Rattle.reading.proofs.Heard.{reading_kind, cell_kind}
+use Rattle.reading.proofs.Heard.{reading_told, cell_said}
 use Rattle.names.proofs.Lines.{said_next, said_end}
 use Rattle.translation.specs.Places.{line_at, line_from, line_of, line_bytes}
 use Rattle.translation.specs.Code.{fewer, PlacedAt}
@@ -55,51 +56,43 @@ unfolding lines line_of
 sought_first s place = record { starts = starts_first s; near = omega arith; numbered = omega arith; passed = refl; rest = refl }
 
 module _ {s : List ℕ} {place left line at : ℕ} (p : Sought s place left line at) where
-  module _ {r : Span} {q : Reading} (l : LineAt s at r) (e : q ≡ reading_of (take (r.end - at) (drop at s))) where
+  module _ {r : Span} {q : Reading} {x : Said} {t : Bool} (l : LineAt s at r) (e : q ≡ reading_of (take (r.end - at) (drop at s))) (f : x ≡ told_by q) (g : t ≡ in_cell (λ c. true) x) where
     abbrev here : List ℕ
     here = take (r.end - at) (drop at s)
 
-    kind_here : makes_cell (heard here) ≡ eqb q.kind 3
-    kind_here = cell_kind (heard here) ∙ ap (λ (k : ℕ). eqb k 3) (sym (ap (λ (z : Reading). z.kind) e ∙ reading_kind here))
+    made_here : makes_cell (heard here) ≡ t
+    made_here = cell_said (heard here) ∙ sym (g ∙ ap (in_cell (λ c. true)) (f ∙ ap told_by e ∙ reading_told here))
 
     -- the lines of the text: those passed, this one, those behind it
     whole : lines s ≡ lines (take at s) ++ (here ∷ lines (drop r.next s))
     whole = sym (lines_split s at p.starts) ∙ ap (λ (ls : List (List ℕ)). lines (take at s) ++ ls) l.cut
 
-    pub sought_more : {m : ℕ} → (eqb q.kind 3 && eqb left 0) ≡ false → m ≡ fewer (eqb q.kind 3) left → Sought s place m (line + 1) r.next
-    sought_more t c =
+    pub sought_more : {m : ℕ} → (t && eqb left 0) ≡ false → m ≡ fewer t left → Sought s place m (line + 1) r.next
+    sought_more h c =
         let n = p.numbered in
         record {
           starts = l.starts;
           near = l.fits;
           numbered = omega (arith, l.moves);
           passed = rw (lines_next s at r p.starts l, length-append) (omega (arith, p.passed));
-          rest = rw (c, add-one line, ← kind_here) (sym (from_next line (heard here) (said (drop r.next s)) left (rw kind_here t)) ∙ (rw (said_next s at r l) at p.rest));
+          rest = rw (c, add-one line, ← made_here) (sym (from_next line (heard here) (said (drop r.next s)) left (rw made_here h)) ∙ (rw (said_next s at r l) at p.rest));
         }
 
-    pub placed_here : (eqb q.kind 3 && eqb left 0) ≡ true → PlacedAt s place (record { line = line; start = at; end = r.end })
+    pub placed_here : (t && eqb left 0) ≡ true → PlacedAt s place (Some (record { line = line; start = at; end = r.end }))
     unfolding line_bytes
-    placed_here t =
+    placed_here h =
         record {
-          line = sym (from_here line (heard here) (said (drop r.next s)) left (rw kind_here t)) ∙ (rw (said_next s at r l) at p.rest);
+          line = sym (from_here line (heard here) (said (drop r.next s)) left (rw made_here h)) ∙ (rw (said_next s at r l) at p.rest);
           span = rw (p.passed, whole) (sym (get_or_at (lines (take at s)) here (lines (drop r.next s)) [] (length (lines (take at s))) refl));
           before = let k : line - 1 ≡ length (lines (take at s)) = omega (arith, p.passed) in rw (k, whole) (sym (take_at (lines (take at s)) (here ∷ lines (drop r.next s)) (length (lines (take at s))) refl));
           ordered = l.from;
           within = l.within;
-          none = λ z. absurd (omega (arith, p.passed));
+          counted = omega (arith, p.passed);
         }
 
-  pub placed_none : length s ≤ at → PlacedAt s place (record { line = 0; start = 0; end = 0 })
-  unfolding line_from line_bytes lines
-  placed_none h =
-      record {
-        line = rw (said_end s at h) at p.rest;
-        span = refl;
-        before = refl;
-        ordered = omega arith;
-        within = omega arith;
-        none = λ z. (refl, refl);
-      }
+  pub placed_none : length s ≤ at → PlacedAt s place None
+  unfolding line_from
+  placed_none h = sym (rw (said_end s at h) at p.rest)
 
 -- one line further on
 behind : {line k : ℕ} {y : Line} (xs : List Line) (x : Line) → (suc line ≤ k) × (get_or xs (k - suc line) Blank ≡ y) → (line ≤ k) × (get_or (x ∷ xs) (k - line) Blank ≡ y)

@@ -1,3 +1,4 @@
 pub mod Images
 pub mod Places
+pub mod Resolving
 pub mod Code

@@ -1,15 +1,16 @@
 -- Translating and then visiting gives the places of the text's own run.
 -- Assumes nothing.
 use mathlib.Core.Path.{◌≡◌, refl, sym, ap, ◌∙◌}
-use mathlib.Core.Bool.{true, false}
-use mathlib.Core.List.{List}
+use mathlib.Core.Bool.{Bool, true, false, not, ◌||◌}
+use mathlib.Core.List.{List, [], ◌∷◌}
 use Prim.Native.Nat.{ℕ, ◌*◌, ◌≤◌, ◌<◌}
-use borrow.Author.Tests.{lt-ltb, le-ltb, ltb-false, ne_eqb}
-use lib.Dec.{ltb}
+use borrow.Author.Tests.{ltb-false, ne_eqb}
+use lib.Dec.{eqb, ltb}
 use lib.ListN.{length, take}
+use Rattle.std.specs.Prelude.{Result, is_err}
+use Rattle.numbers.specs.Tests.{lowest}
 use Rattle.numbers.proofs.Truth.{neither}
-use Rattle.events.specs.Events.{events, bad_script, bad_events, first_bad_event, event_count}
-use Rattle.events.proofs.Scripts.{bad_events_lem}
+use Rattle.events.specs.Events.{events, bad_script, bad_events}
 use Rattle.running.specs.Courses.{cell_acts}
 use Rattle.running.specs.Visits.{image_visits, visits_over}
 use Rattle.running.specs.Code.{VisitedAs}
@@ -17,34 +18,29 @@ use Rattle.translation.specs.Images.{image, accepted}
 use Rattle.agreement.proofs.Course.{same_visits}
 use Rattle.bench.specs.declared.Translated.{Translated}
 use Rattle.bench.specs.Translating.{translated}
-use Rattle.bench.specs.Running.{big_budget}
+use Rattle.bench.specs.declared.Refusal.{Refusal}
+use Rattle.bench.specs.Running.{big_budget, faults_with, told_number}
 use Rattle.bench.specs.Following.{line_acts}
 use Rattle.bench.specs.Calls.{Translates}
+use Rattle.bench.proofs.Refusing.{err_numbered}
 use Rattle.tried.specs.Visiting.{lines_visits, text_visits, visit_refused, visited_turns, visited_into, Visited}
 use Rattle.tried.proofs.Trials.{Accepts, Answer, refused, taken, answer, whole}
 
--- Which test refuses.
-module _ (script : List ℕ) (budget size : ℕ) where
-  pub by_script : bad_script script ≡ true → true ≡ visit_refused script budget size
-  unfolding visit_refused
-  by_script t = rw t
+-- What refuses a run on the script refuses the call.
+pub refuses : (script : List ℕ) (budget size : ℕ) → not (eqb (lowest 32 (faults_with script budget size 2)) 0) ≡ visit_refused script budget size
+unfolding visit_refused lowest
+refuses script budget size = by_tests (bad_script script) (bad_events script) (big_budget budget) (ltb size (2 * budget))
+  where
+    by_tests : (a b c d : Bool) → not (eqb (lowest 32 (a ∷ b ∷ c ∷ d ∷ [])) 0) ≡ (a || (b || (c || d)))
+    by_tests true b c d = refl
+    by_tests false true c d = refl
+    by_tests false false true d = refl
+    by_tests false false false true = refl
+    by_tests false false false false = refl
 
-  module _ (w : bad_script script ≡ false) {i n : ℕ} (e : i ≡ first_bad_event script) (k : n ≡ event_count script) where
-    pub by_event : i < n → true ≡ visit_refused script budget size
-    unfolding visit_refused
-    by_event h = let t : bad_events script ≡ true = bad_events_lem script ∙ rw (← e, ← k) (lt-ltb i n h) in rw (w, t)
-
-    module _ (h : n ≤ i) where
-      fine : bad_events script ≡ false
-      fine = bad_events_lem script ∙ rw (← e, ← k) (le-ltb i n h)
-
-      pub by_budget : 4096 < budget → true ≡ visit_refused script budget size
-      unfolding visit_refused big_budget
-      by_budget l = rw (w, fine, lt-ltb 4096 budget l)
-
-      pub by_room : budget ≤ 4096 → ltb size (2 * budget) ≡ visit_refused script budget size
-      unfolding visit_refused big_budget
-      by_room l = rw (w, fine, le-ltb 4096 budget l)
+pub asked : (script : List ℕ) (budget size : ℕ) (r : Result (Unit {0}) Refusal) {b t : Bool} → told_number r ≡ lowest 32 (faults_with script budget size 2) → b ≡ is_err r → b ≡ t
+    → visit_refused script budget size ≡ t
+asked script budget size r q e k = sym (refuses script budget size) ∙ sym (ap (λ (n : ℕ). not (eqb n 0)) q) ∙ sym (err_numbered r) ∙ sym e ∙ k
 
 -- What holds where nothing is refused.
 pub record Fit (script : List ℕ) (budget size : ℕ) : Type 0 where

@@ -1,12 +1,10 @@
 // A text tried at once: translated, then run.
 #![tactic(auto)]
 
-ghost use Rattle.std.specs.Prelude.{◌≡◌};
 ghost use Rattle.tried.specs.Trying.{Tries};
-ghost use Rattle.tried.specs.Visiting.{visit_refused, Visited};
+ghost use Rattle.tried.specs.Visiting.{Visited};
 
 use bench::{Ran, Translated};
-use events::script::{event_count, first_bad_event, is_bad_script};
 
 // The answer to translating, and that to running the image; where the text is refused there is no image, and the run is refused too.
 #[derive(Clone, Copy)]
@@ -31,25 +29,6 @@ pub fn try_text(
     Tried { translated, ran }
 }
 
-// The most turns that a run may take.
-const MOST_TURNS: u64 = 4096;
-
-// A bad script or budget, or too little room for the places of a run.
-fn is_refused(events: &[u8], budget: u64, room: usize) -> bool
-    ensures { result ≡ visit_refused events.now budget room }
-{
-    if is_bad_script(events) {
-        return true;
-    }
-    if first_bad_event(events) < event_count(events) {
-        return true;
-    }
-    if MOST_TURNS < budget {
-        return true;
-    }
-    room < running::PLACE_BYTES * (budget as usize)
-}
-
 // Translates a text into the image buffer, and writes the places of its run, one for each turn. How many turns there were is handed back.
 pub fn visit_text(
     text: &[u8],
@@ -64,7 +43,7 @@ pub fn visit_text(
     if translated.number != 0 {
         return 0;
     }
-    if is_refused(events, budget, visits.len()) {
+    if bench::may_begin(events, budget, visits.len(), running::PLACE_BYTES as u8).is_err() {
         return 0;
     }
     let length = translated.length;

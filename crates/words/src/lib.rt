@@ -1,139 +1,83 @@
-// The bench's words: what each number of an answer means, what the tool says, and how it is used. A table of lines, and a text.
-
-// The kinds of line, by the second letter of their first word.
+// The bench's words: what each number of an answer means, what the tool says, and how it is used. Two tables of lines, and a text.
 #![tactic(auto)]
 
-pub const REFUSAL: u8 = b'e';
+ghost use Rattle.std.specs.Prelude.{◌≡◌, ◌≤◌, List, ℕ, IfSome, IsTrue, take, codes};
+ghost use Rattle.words.specs.Lines.{head, IsLine, lines_told, lines_before};
+ghost use Rattle.std.specs.Iterator.Adapters.{skip_count, take_count, take_source};
 
-pub const ERROR: u8 = b'r';
+use std::iter::{Skip, Take};
+use std::str::Lines;
 
-pub const END: u8 = b'n';
-
-pub const HINT: u8 = b'i';
-
-pub const SCRIPT: u8 = b'c';
-
-pub const USAGE: u8 = b's';
-
-pub const COMMAND: u8 = b'o';
-
-pub const KIND_OF_EVENT: u8 = b'v';
-
-pub const KIND_OF_RECORD: u8 = b't';
-
-pub const MOTION: u8 = b'x';
-
-pub const PART: u8 = b'a';
-
-pub const SAMPLE: u8 = b'u';
-
-pub const DIFFERENCE: u8 = b'h';
+// The kinds of line.
+#[derive(Clone, Copy, PartialEq, Eq)]
+pub enum Kind {
+    Refusal,
+    Error,
+    End,
+    Hint,
+    Script,
+    Usage,
+    Command,
+    Event,
+    Record,
+    Motion,
+    Part,
+    Sample,
+    Difference,
+}
 
 // The parts of what the tool says, by their numbers.
-pub const PUNNET: u32 = 1;
+#[derive(Clone, Copy)]
+pub enum Part {
+    Punnet = 1,
+    StandardOutput = 2,
+    Cells = 3,
+    Labels = 4,
+    Variables = 5,
+    Events = 6,
+    Header = 7,
+    EventRow = 8,
+    Turns = 9,
+    Records = 10,
+    Position = 11,
+    Outputs = 12,
+    Changed = 13,
+    Start = 14,
+    Faulty = 15,
+    Colon = 16,
+    Equals = 17,
+    Cut = 18,
+    Escape = 19,
+    Unfinished = 20,
+    Event = 21,
+    TurnsAsked = 22,
+    FirstTen = 23,
+    Version = 24,
+    AfterError = 25,
+    Handler = 26,
+    Compared = 27,
+    Kind = 28,
+    Variable = 29,
+    And = 30,
+    Different = 31,
+    Equal = 32,
+    Record = 33,
+    TurnsTaken = 34,
+}
 
-pub const STANDARD_OUTPUT: u32 = 2;
+// The lines of the text on the tool's use that tell of a command.
+pub type Help = Take<Skip<Lines<'static>>>;
 
-pub const CELLS: u32 = 3;
+// The last command that the text on the tool's use tells of, and how many lines it has for each.
+const LAST_COMMAND: u32 = 9;
 
-pub const LABELS: u32 = 4;
+const HELP_LINES: usize = 3;
 
-pub const VARIABLES: u32 = 5;
+// No command or option has this number or a higher one.
+const MOST_SOUGHT: u32 = 15;
 
-pub const EVENTS: u32 = 6;
-
-pub const HEADER: u32 = 7;
-
-pub const EVENT_ROW: u32 = 8;
-
-pub const TURNS: u32 = 9;
-
-pub const RECORDS: u32 = 10;
-
-pub const POSITION: u32 = 11;
-
-pub const OUTPUTS: u32 = 12;
-
-pub const CHANGED: u32 = 13;
-
-pub const START: u32 = 14;
-
-pub const FAULTY: u32 = 15;
-
-pub const COLON: u32 = 16;
-
-pub const EQUALS: u32 = 17;
-
-pub const CUT: u32 = 18;
-
-pub const ESCAPE: u32 = 19;
-
-pub const UNFINISHED: u32 = 20;
-
-pub const EVENT: u32 = 21;
-
-pub const TURNS_ASKED: u32 = 22;
-
-pub const FIRST_TEN: u32 = 23;
-
-pub const VERSION: u32 = 24;
-
-pub const AFTER_ERROR: u32 = 25;
-
-pub const HANDLER: u32 = 26;
-
-pub const COMPARED: u32 = 27;
-
-pub const KIND: u32 = 28;
-
-pub const VARIABLE: u32 = 29;
-
-pub const AND: u32 = 30;
-
-pub const DIFFERENT: u32 = 31;
-
-pub const EQUAL: u32 = 32;
-
-pub const RECORD: u32 = 33;
-
-pub const TURNS_TAKEN: u32 = 34;
-
-// The last command that the text on the tool's use tells of.
-pub const LAST_COMMAND: u32 = 9;
-
-// No line that is sought by its meaning has this number or a higher one.
-const MOST_SOUGHT: u32 = 16;
-
-// The table stands in five pieces, since a long one is dear to prove: lines for the tool, numbers of answers, hints, wrong uses, and the text
-// on the tool's use, which is no part of the lines. What is sought most often stands first.
-const TOOL_SIZE: usize = 2878;
-
-const ANSWER_SIZE: usize = 1823;
-
-const HINT_SIZE: usize = 2709;
-
-const USE_SIZE: usize = 1399;
-
-const HELP_SIZE: usize = 2082;
-
-// Where the first line for people begins, the text on the tool's use, and in it what it says on the first command; and the bytes of all.
-pub const FIRST_FOR_PEOPLE: usize = TOOL_SIZE;
-
-pub const HELP: usize = TOOL_SIZE + ANSWER_SIZE + HINT_SIZE + USE_SIZE;
-
-const FIRST_COMMAND: usize = HELP + 68;
-
-pub const SIZE: usize = HELP + HELP_SIZE;
-
-// The number of lines, and the bytes of the longest with its end.
-const LINE_COUNT: usize = 217;
-
-pub const LONGEST: usize = 93;
-
-// The byte of the digit 0 is a multiple of this.
-const DIGITS_FROM: u8 = 16;
-
-const TOOL: [u8; TOOL_SIZE] = *b"event 1: input
+// The lines for the tool. What is sought most often stands first.
+static FOR_TOOL: &str = "event 1: input
 event 2: arrived
 event 3: position
 item 1: output 
@@ -231,7 +175,8 @@ such 106: MR 100 twice, and no H between them
 such 109: DC R1, and R1 is -2147483647
 ";
 
-const ANSWERS: [u8; ANSWER_SIZE] = *b"refusal 1: the text has more than 16,384 bytes
+// The lines for people: numbers of answers, hints, and wrong uses.
+static FOR_PEOPLE: &str = "refusal 1: the text has more than 16,384 bytes
 refusal 2: the line has more than 64 bytes
 refusal 3: a byte or a form that no statement has
 refusal 4: a number outside -2,147,483,647 to 2,147,483,647
@@ -264,9 +209,7 @@ error 109: the result is below -2,147,483,647
 end 1: past the last statement
 end 2: stopped, no return place was free for the handler
 end 3: every turn that was asked for is used
-";
-
-const HINTS: [u8; HINT_SIZE] = *b"hint 1: a TAB; only blanks may stand between words
+hint 1: a TAB; only blanks may stand between words
 hint 2: a carriage return that no line feed follows
 hint 3: a control character
 hint 4: not a plain character; marks pasted from a manual are often curly
@@ -325,10 +268,7 @@ hint 56: is a word of the drives; no line may declare it
 hint 57: more than 8,192 records
 hint 58: records have 12 bytes each
 hint 59: this looks like a text; --texts compares the runs of two texts
-";
-
-const USES: [u8; USE_SIZE] =
-    *b"script 1: no event; TURN arrived, TURN input N VALUE or TURN position VALUE
+script 1: no event; TURN arrived, TURN input N VALUE or TURN position VALUE
 script 2: a number that does not fit in an event
 usage 1: wants TEXT [EVENTS] [TURNS]
 usage 2: wants [-f] TEXT IMAGE
@@ -359,8 +299,8 @@ usage 33: is there already and is left alone; -f writes over it
 usage 34: is standard input for both; name one of the two files
 ";
 
-const HELP_TEXT: [u8; HELP_SIZE] =
-    *b"punnet: MCode programs tried on the bench before a motor sees them
+// The text on the tool's use.
+static HELP: &str = "punnet: MCode programs tried on the bench before a motor sees them
 
   punnet try TEXT [EVENTS] [TURNS]
       translate a text, run it, and tell what happened turn by turn
@@ -403,132 +343,127 @@ file only so. The status is 0 accepted, run or equal, 1 refused or
 different, 2 usage or file trouble.
 ";
 
-// The byte of the text on the tool's use at a place; an end of line past the text.
-fn help_letter(at: usize) -> u8 {
-    if at < HELP_SIZE {
-        return HELP_TEXT[at];
-    }
-    b'\n'
-}
-
-// The byte at a place from the wrong uses on, from the hints on, from the answers on, and from the table's beginning on.
-fn use_letter(at: usize) -> u8 {
-    if at < USE_SIZE {
-        return USES[at];
-    }
-    help_letter(at - USE_SIZE)
-}
-
-fn hint_letter(at: usize) -> u8 {
-    if at < HINT_SIZE {
-        return HINTS[at];
-    }
-    use_letter(at - HINT_SIZE)
-}
-
-fn answer_letter(at: usize) -> u8 {
-    if at < ANSWER_SIZE {
-        return ANSWERS[at];
-    }
-    hint_letter(at - ANSWER_SIZE)
-}
-
-pub fn letter(at: usize) -> u8 {
-    if at < TOOL_SIZE {
-        return TOOL[at];
-    }
-    answer_letter(at - TOOL_SIZE)
-}
-
-// The byte of the table so many places behind one.
-pub fn letter_behind(start: usize, i: usize) -> u8 {
-    if SIZE <= start {
-        return b'\n';
-    }
-    if SIZE <= i {
-        return b'\n';
-    }
-    letter(start + i)
-}
-
-// The place behind the first such byte from here on; the table's size where there is none.
-fn place_behind(byte: u8, at: usize) -> usize {
-    let mut i = at;
-    while i < SIZE {
-        if letter(i) == byte {
-            return i + 1;
+impl Kind {
+    // What a line of the kind begins with.
+    #[tactic(auto, unfolding(crate::specs::Lines::head))]
+    fn head(self) -> &'static str
+        ensures { result.now ≡ head self }
+    {
+        match self {
+            Kind::Refusal => "refusal ",
+            Kind::Error => "error ",
+            Kind::End => "end ",
+            Kind::Hint => "hint ",
+            Kind::Script => "script ",
+            Kind::Usage => "usage ",
+            Kind::Command => "command ",
+            Kind::Event => "event ",
+            Kind::Record => "item ",
+            Kind::Motion => "axis ",
+            Kind::Part => "part ",
+            Kind::Sample => "such ",
+            Kind::Difference => "what ",
         }
-        i += 1;
     }
-    SIZE
-}
 
-// The number that stands before the colon in the line at this place.
-fn number_of_line(at: usize) -> u32 {
-    let mut number: u32 = 0;
-    let mut i = place_behind(b' ', at);
-    while i < SIZE {
-        let digit = letter(i);
-        if digit == b':' {
-            return number;
+    // The lines among which those of the kind stand.
+    fn table(self) -> &'static str {
+        match self {
+            Kind::Refusal | Kind::Error | Kind::End | Kind::Hint | Kind::Script | Kind::Usage =>
+                for_people(),
+            _ => FOR_TOOL,
         }
-        number = number % 100 * 10 + ((digit % DIGITS_FROM) as u32);
-        i += 1;
     }
-    number
 }
 
-// Where the line for a number of a kind begins; the table's size where there is none.
-pub fn line_for(kind: u8, number: u32) -> usize {
-    let mut at: usize = 0;
-    for _ in 0..LINE_COUNT {
-        if (letter_behind(at, 1) == kind) & (number_of_line(at) == number) {
-            return at;
-        }
-        at = place_behind(b'\n', at);
-    }
-    SIZE
+// What a line means, behind the colon and the space, where it is the one for a number of a kind.
+#[tactic(auto, unfolding(crate::specs::Lines::IsLine))]
+fn meaning<'a>(line: &'a str, kind: Kind, number: u32) -> Option<&'a str>
+    ensures { IfSome result (λ said. IsLine kind number line.now said.now) }
+{
+    let (digits, meaning) = line.strip_prefix(kind.head())?.split_once(": ")?;
+    let told = digits.parse::<u32>().ok()?;
+    if told == number { Some(meaning) } else { None }
 }
 
-// Where the meaning begins in a line, behind the colon and the space.
-fn meaning_of_line(at: usize) -> usize {
-    place_behind(b' ', place_behind(b':', at))
+// The line for a number of a kind.
+pub fn line_for(kind: Kind, number: u32) -> Option<&'static str>
+    ensures { IfSome result (λ line. (said : List ℕ) × IsLine kind number line.now said) }
+{
+    kind.table()
+        .lines()
+        .find(|line| meaning(*line, kind, number).is_some())
 }
 
-pub fn meaning_for(kind: u8, number: u32) -> usize {
-    meaning_of_line(line_for(kind, number))
+// What that line means.
+pub fn meaning_for(kind: Kind, number: u32) -> Option<&'static str>
+    ensures { IfSome result (λ said. (line : List ℕ) × IsLine kind number line said.now) }
+{
+    kind.table()
+        .lines()
+        .find_map(|line| meaning(line, kind, number))
 }
 
-// Whether a line from this place on is a word.
-fn is_word(word: &[u8], at: usize) -> bool {
-    let mut i: usize = 0;
-    while i < word.len() {
-        if letter_behind(at, i) != word[i] {
+// Whether the line for a number of a kind means a word.
+pub fn means(kind: Kind, number: u32, word: &[u8]) -> bool
+    ensures { IsTrue result → (line : List ℕ) × IsLine kind number line word.now }
+{
+    meaning_for(kind, number).map(str::as_bytes) == Some(word)
+}
+
+// Whether the tables say a word from what the line for a command means on. A word with ends of lines in it goes on with the lines behind that one;
+// behind the last line, and where there is no line of that number, all lines are empty.
+fn says(number: u32, word: &[u8]) -> bool {
+    let tables = Kind::Command.table().lines().chain(for_people().lines());
+    let mut lines = tables.chain(help().lines());
+    let meant = lines.find_map(|line| meaning(line, Kind::Command, number));
+    let mut said = meant.map(str::as_bytes).unwrap_or(&[]);
+    for piece in word.split(|b| *b == b'\n') {
+        if said != piece {
             return false;
         }
-        i += 1;
+        said = lines.next().map(str::as_bytes).unwrap_or(&[]);
     }
-    letter_behind(at, i) == b'\n'
+    true
 }
 
-// The number of the line of a kind that means a word, among the first; 0 where there is none.
-pub fn number_for(kind: u8, word: &[u8]) -> u32 {
-    if word.len() == 0 {
-        return 0;
+// The number of the command or option that a word is; that of none, 15, for ends of lines alone.
+pub fn command_for(word: &[u8]) -> Option<u32>
+    ensures { IfSome result (λ number. (1 ≤ number) × (number ≤ 15)) }
+{
+    if word.is_empty() {
+        return None;
     }
-    for number in 1..MOST_SOUGHT {
-        if is_word(word, meaning_for(kind, number)) {
-            return number;
-        }
-    }
-    0
+    (1..=MOST_SOUGHT).find(|number| says(*number, word))
 }
 
-// Where the text on the tool's use tells of a command: in three lines for each, in their order. Behind the last stands what it says besides.
-pub fn help_place(command: u32) -> usize {
-    let mut at = FIRST_COMMAND;
-    for _ in 1..command {
-        at = place_behind(b'\n', place_behind(b'\n', place_behind(b'\n', at)));
+// All lines for people.
+pub fn for_people() -> &'static str
+    ensures { take 10 result.now ≡ codes "refusal 1:" }
+{
+    FOR_PEOPLE
+}
+
+// The text on the tool's use.
+pub fn help() -> &'static str
+    ensures { take 7 result.now ≡ codes "punnet:" }
+{
+    HELP
+}
+
+// What that text says on a command: three lines, in the order of the commands, behind the title and an empty line; none where it tells of no
+// command with this number.
+#[tactic(auto, unfolding(crate::specs::Lines::lines_told, crate::specs::Lines::lines_before))]
+pub fn help_of(command: u32) -> Help
+    ensures told { take_count result ≡ lines_told command }
+    ensures before { skip_count (take_source result) ≡ lines_before command }
+{
+    let lines = help().lines();
+    let is_told = (1 <= command) & (command <= LAST_COMMAND);
+    if !is_told {
+        return lines.skip(0).take(0);
     }
-    at
+    lines
+        .skip(HELP_LINES * (command as usize) - 1)
+        .take(HELP_LINES)
 }

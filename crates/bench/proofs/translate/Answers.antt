@@ -2,8 +2,6 @@
 use mathlib.Core.Path.{◌≡◌, sym, ap, ◌∙◌}
 use native.Mathlib.Omega.{arith}
 use lib.ListN.{length}
-use Rattle.text.specs.Faults.{first_fault}
-use Rattle.text.specs.declared.Fault.{Fault}
 use Rattle.rows.proofs.Seeking.{long}
 use Rattle.translation.specs.Images.{image}
 use Rattle.bench.specs.Translating.{answered}
@@ -16,36 +14,29 @@ returns-then-text-gt-LONGEST_TEXT c = refused_long _ _ c.if-text-gt-LONGEST_TEXT
 pub slice_bounds-survey_lines-end : goal.slice_bounds-survey_lines-end
 slice_bounds-survey_lines-end c = sym (ap length c.arrange-rows.ensures ∙ long _)
 
-pub survey_lines-survey-requires : goal.survey_lines-survey-requires
-survey_lines-survey-requires c = c.arrange-rows.ensures
+pub survey_lines-requires : goal.survey_lines-requires
+survey_lines-requires c = c.arrange-rows.ensures
 
-pub returns-then-fault-ne0 : goal.returns-then-fault-ne0
-returns-then-fault-ne0 c =
-    refused_line _ _ c.if-text-gt-LONGEST_TEXT.false c.survey_lines-survey.ensures.fault c.if-fault-ne0.true c.not_translated-then-fault-ne0.ensures
+pub returns-in-Err : goal.returns-in-Err
+returns-in-Err c =
+    refused_line _ _ c.if-text-gt-LONGEST_TEXT.false c.in-Err.ensures.first c.in-Err.ensures.there c.not_translated-in-Err.ensures
 
 pub overflow_cast-counts : goal.overflow_cast-counts
 overflow_cast-counts c =
-    let clean : (first_fault c.args.text.now).number ≡ 0 = sym (ap (λ (f : Fault). f.number) c.survey_lines-survey.ensures.fault) ∙ c.if-fault-ne0.false in
-    let tally = c.survey_lines-survey.ensures.counts clean in
-    let h = few _ clean tally in omega arith
+    let h = few _ c.in-Ok.ensures.clear c.in-Ok.ensures.counts in omega arith
 
 pub overflow_cast-counts-2 : goal.overflow_cast-counts-2
 overflow_cast-counts-2 c =
-    let clean : (first_fault c.args.text.now).number ≡ 0 = sym (ap (λ (f : Fault). f.number) c.survey_lines-survey.ensures.fault) ∙ c.if-fault-ne0.false in
-    let tally = c.survey_lines-survey.ensures.counts clean in
-    let h = few _ clean tally in omega arith
+    let h = few _ c.in-Ok.ensures.clear c.in-Ok.ensures.counts in omega arith
 
 pub overflow_cast-counts-3 : goal.overflow_cast-counts-3
 overflow_cast-counts-3 c =
-    let clean : (first_fault c.args.text.now).number ≡ 0 = sym (ap (λ (f : Fault). f.number) c.survey_lines-survey.ensures.fault) ∙ c.if-fault-ne0.false in
-    let tally = c.survey_lines-survey.ensures.counts clean in
-    let h = few _ clean tally in omega arith
+    let h = few _ c.in-Ok.ensures.clear c.in-Ok.ensures.counts in omega arith
 
 pub returns-then-image-length : goal.returns-then-image-length
 returns-then-image-length c =
-    let clean : (first_fault c.args.text.now).number ≡ 0 = sym (ap (λ (f : Fault). f.number) c.survey_lines-survey.ensures.fault) ∙ c.if-fault-ne0.false in
-    let tally = c.survey_lines-survey.ensures.counts clean in
-    let size : c.image_length-length.result ≡ length (image c.args.text.now) = measured _ clean tally c.image_length-length.ensures in
+    let clean = c.in-Ok.ensures.clear in
+    let size : c.image_length-length.result ≡ length (image c.args.text.now) = measured _ clean c.in-Ok.ensures.counts c.image_length-length.ensures in
     refused_short _ _ c.if-text-gt-LONGEST_TEXT.false clean (rw size at c.if-image-length.true) c.not_translated-then-image-length.ensures
 
 pub slice_bounds-write_image-end : goal.slice_bounds-write_image-end
@@ -53,19 +44,18 @@ slice_bounds-write_image-end c = sym (ap length c.arrange-rows.ensures ∙ long 
 
 pub write_image-requires : goal.write_image-requires
 write_image-requires c =
-    let clean : (first_fault c.args.text.now).number ≡ 0 = sym (ap (λ (f : Fault). f.number) c.survey_lines-survey.ensures.fault) ∙ c.if-fault-ne0.false in
+    let clean = c.in-Ok.ensures.clear in
     record {
       short = c.if-text-gt-LONGEST_TEXT.false;
       clear = clean;
       arranged = c.arrange-rows.ensures;
-      counted = c.survey_lines-survey.ensures.counts clean;
+      counted = c.in-Ok.ensures.counts;
       has_room = rw c.image_length-length.ensures at c.if-image-length.false;
     }
 
 pub returns : goal.returns
 unfolding image
 returns c =
-    let clean : (first_fault c.args.text.now).number ≡ 0 = sym (ap (λ (f : Fault). f.number) c.survey_lines-survey.ensures.fault) ∙ c.if-fault-ne0.false in
-    let tally = c.survey_lines-survey.ensures.counts clean in
-    let size : c.image_length-length.result ≡ length (image c.args.text.now) = measured _ clean tally c.image_length-length.ensures in
+    let clean = c.in-Ok.ensures.clear in
+    let size : c.image_length-length.result ≡ length (image c.args.text.now) = measured _ clean c.in-Ok.ensures.counts c.image_length-length.ensures in
     translated_as _ _ c.if-text-gt-LONGEST_TEXT.false clean (rw size at c.if-image-length.false) (ap (answered 0 0) size) c.write_image.ensures

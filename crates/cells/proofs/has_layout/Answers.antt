@@ -1,25 +1,24 @@
--- `has_layout` meets its contract: the loop searches the table. Its invariant: the rows from here on give what all give.
+-- `has_layout` meets its contract: the code's table is that of the layouts.
 -- Assumes nothing.
-use mathlib.Core.Path.{◌≡◌, refl, ◌∙◌}
-use native.Mathlib.Omega.{arith}
+use mathlib.Core.Path.{refl, ap, ◌∙◌}
+use mathlib.Core.Bool.{Bool}
+use mathlib.Core.List.{List, map}
+use Prim.Native.Nat.{ℕ}
+use borrow.Author.Tests.{tests}
+use Rattle.std.proofs.Common.{rules}
+use Rattle.std.proofs.lemmas.Iterator.{YieldsList-from_slice}
+use Rattle.std.proofs.lemmas.Iterator.Search.{any_from_yields_List}
+use Rattle.std.specs.Slice.Iter.{iter_rest}
 use Rattle.numbers.specs.Tests.{any_of}
 use Rattle.image.specs.Check.{layouts}
-use Rattle.image.proofs.Any.{past_one, at_one}
+use Rattle.cells.specs.Code.{use_of, fits_of}
+use Rattle.cells.proofs.Searches.{any_row}
 use Rattle.cells.proofs.has_layout.Goals as goal
 
-pub loop-i-init : goal.loop-i-init
-loop-i-init c = (omega arith, refl)
-
-pub returns-then-fits : goal.returns-then-fits
-returns-then-fits c =
-    at_one _ c.row.ensures c.fits.ensures c.if-fits.true ∙ c.loop-i.invariant.1
-
-pub loop-i-preserved : goal.loop-i-preserved
-loop-i-preserved c =
-    (omega arith, past_one _ c.row.ensures c.fits.ensures c.if-fits.false ∙ c.loop-i.invariant.1)
-
 pub returns : goal.returns
-unfolding any_of layouts
+unfolding layouts use_of
 returns c =
-    let e : c.loop-i.i ≡ 17 = omega arith in
-    rw e at c.loop-i.invariant.1
+    let fitting = fits_of c.args.variables c.args.aimed c.args.f in
+    any_from_yields_List (λ u. fitting (use_of u)) _ _ c.any.result c.any.ensures.ran (YieldsList-from_slice (iter_rest c.iter.result) refl) (λ x b q k. search (rules, tests))
+    ∙ any_row use_of fitting (iter_rest c.iter.result)
+    ∙ ap (λ (rows : List (ℕ × Bool × ℕ × Bool × Bool × Bool)). any_of fitting (map use_of rows)) c.iter.ensures.rest

@@ -24,5 +24,5 @@ loop-k-preserved c =
 pub returns : goal.returns
 returns c =
     let l = c.loop-k in
-    let e : l.k ≡ label_count c.args.s.now = omega (arith, c.label_count-labels.ensures, l.invariant.0, c.loop-k-test.false) in
+    let e : l.k ≡ label_count c.args.s.now = omega (arith, c.label_count-k-end.ensures, l.invariant.0, c.loop-k-test.false) in
     rw (← e) l.invariant.1

@@ -4,5 +4,5 @@ use mathlib.Core.Path.{sym}
 use lib.Seq.{set_out}
 use Rattle.cells.proofs.mark.Goals as goal
 
-pub returns-then-marks-place : goal.returns-then-marks-place
-returns-then-marks-place c = sym (set_out _ _ _ c.if-marks-place.true)
+pub returns-else-place-marks : goal.returns-else-place-marks
+returns-else-place-marks c = sym (set_out _ _ _ c.if-place-marks.false)

@@ -1,9 +1,12 @@
--- `is_bad` meets its contract: the invariant: no record passed is bad.
+-- `is_bad` meets its contract: a search over the records.
 -- Assumes nothing.
-use mathlib.Core.Path.{sym, ◌∙◌}
+use mathlib.Core.Path.{refl, sym, ◌∙◌}
 use native.Mathlib.Omega.{arith}
-use borrow.Author.Count.{below_more}
-use Rattle.comparing.proofs.Buffers.{bad_count, bad_length_lem, bad_record_lem, no_bad}
+use borrow.Author.Tests.{tests}
+use Rattle.std.proofs.Common.{rules}
+use Rattle.numbers.proofs.Searches.{found_below}
+use Rattle.comparing.specs.Differences.{bad_record}
+use Rattle.comparing.proofs.Buffers.{bad_count, bad_length_lem, as_records}
 use Rattle.comparing.proofs.is_bad.Goals as goal
 
 pub returns-then-count-gt-MOST : goal.returns-then-count-gt-MOST
@@ -15,19 +18,5 @@ returns-then-s-ne0 c = sym (bad_length_lem _ c.if-s-ne0.true)
 pub returns : goal.returns
 returns c =
     let n = c.event_count-count.ensures in
-    sym (no_bad _ (omega (arith, n, c.if-count-gt-MOST.false)) c.if-s-ne0.false (λ k h. c.loop-k.invariant.1 k (omega (arith, n, c.loop-k-test.false))))
-
-pub loop-k-init : goal.loop-k-init
-loop-k-init c = (omega arith, λ j l. absurd (omega arith))
-
-pub is_bad_record-requires : goal.is_bad_record-requires
-is_bad_record-requires c =
-    let n = c.event_count-count.ensures in
-    (omega (arith, n, c.loop-k-test.true), omega (arith, n, c.if-count-gt-MOST.false))
-
-pub returns-then-is_bad_record : goal.returns-then-is_bad_record
-returns-then-is_bad_record c =
-    sym (bad_record_lem _ c.loop-k.k (omega (arith, c.event_count-count.ensures, c.loop-k-test.true)) (sym c.is_bad_record.ensures ∙ c.if-is_bad_record.true))
-
-pub loop-k-preserved : goal.loop-k-preserved
-loop-k-preserved c = (omega arith, below_more _ _ c.loop-k.invariant.1 (sym c.is_bad_record.ensures ∙ c.if-is_bad_record.false))
+    found_below (bad_record c.args.s.now) c.event_count-count.result refl c.any.ensures.ran (λ x b q k. search (rules, tests))
+    ∙ rw n (as_records _ (omega (arith, n, c.if-count-gt-MOST.false)) c.if-s-ne0.false)

@@ -4,62 +4,62 @@ use Rattle.numbers.proofs.Kit.{tests}
 use Rattle.forms.specs.Code.{first_form}
 use Rattle.forms.proofs.first_form.Goals as goal
 
-pub returns-then-first-eq-LB : goal.returns-then-first-eq-LB
+pub returns-in-16972 : goal.returns-in-16972
 unfolding first_form
-returns-then-first-eq-LB c = rw c.if-first-eq-LB.true
+returns-in-16972 c = rw c.in-16972.is
 
-pub returns-then-first-eq-VA : goal.returns-then-first-eq-VA
+pub returns-in-16726 : goal.returns-in-16726
 unfolding first_form
-returns-then-first-eq-VA c = rw c.if-first-eq-VA.true
+returns-in-16726 c = rw c.in-16726.is
 
-pub returns-then-first-eq-IC : goal.returns-then-first-eq-IC
+pub returns-in-17225 : goal.returns-in-17225
 unfolding first_form
-returns-then-first-eq-IC c = rw c.if-first-eq-IC.true
+returns-in-17225 c = rw c.in-17225.is
 
-pub returns-then-first-eq-DC : goal.returns-then-first-eq-DC
+pub returns-in-17220 : goal.returns-in-17220
 unfolding first_form
-returns-then-first-eq-DC c = rw c.if-first-eq-DC.true
+returns-in-17220 c = rw c.in-17220.is
 
-pub returns-then-first-eq-BR : goal.returns-then-first-eq-BR
+pub returns-in-21058 : goal.returns-in-21058
 unfolding first_form
-returns-then-first-eq-BR c = rw c.if-first-eq-BR.true
+returns-in-21058 c = rw c.in-21058.is
 
-pub returns-then-first-eq-CL : goal.returns-then-first-eq-CL
+pub returns-in-19523 : goal.returns-in-19523
 unfolding first_form
-returns-then-first-eq-CL c = rw c.if-first-eq-CL.true
+returns-in-19523 c = rw c.in-19523.is
 
-pub returns-then-first-eq-RT : goal.returns-then-first-eq-RT
+pub returns-in-21586 : goal.returns-in-21586
 unfolding first_form
-returns-then-first-eq-RT c = rw c.if-first-eq-RT.true
+returns-in-21586 c = rw c.in-21586.is
 
-pub returns-then-first-eq-E : goal.returns-then-first-eq-E
+pub returns-in-69 : goal.returns-in-69
 unfolding first_form
-returns-then-first-eq-E c = rw c.if-first-eq-E.true
+returns-in-69 c = rw c.in-69.is
 
-pub returns-then-first-eq-H : goal.returns-then-first-eq-H
+pub returns-in-72 : goal.returns-in-72
 unfolding first_form
-returns-then-first-eq-H c = rw c.if-first-eq-H.true
+returns-in-72 c = rw c.in-72.is
 
-pub returns-then-first-eq-OE : goal.returns-then-first-eq-OE
+pub returns-in-17743 : goal.returns-in-17743
 unfolding first_form
-returns-then-first-eq-OE c = rw c.if-first-eq-OE.true
+returns-in-17743 c = rw c.in-17743.is
 
-pub returns-then-first-eq-MA : goal.returns-then-first-eq-MA
+pub returns-in-16717 : goal.returns-in-16717
 unfolding first_form
-returns-then-first-eq-MA c = rw c.if-first-eq-MA.true
+returns-in-16717 c = rw c.in-16717.is
 
-pub returns-then-first-eq-MR : goal.returns-then-first-eq-MR
+pub returns-in-21069 : goal.returns-in-21069
 unfolding first_form
-returns-then-first-eq-MR c = rw c.if-first-eq-MR.true
+returns-in-21069 c = rw c.in-21069.is
 
-pub returns-then-first-eq-SL : goal.returns-then-first-eq-SL
+pub returns-in-19539 : goal.returns-in-19539
 unfolding first_form
-returns-then-first-eq-SL c = rw c.if-first-eq-SL.true
+returns-in-19539 c = rw c.in-19539.is
 
-pub returns-then-first-eq-PR : goal.returns-then-first-eq-PR
+pub returns-in-21072 : goal.returns-in-21072
 unfolding first_form
-returns-then-first-eq-PR c = rw c.if-first-eq-PR.true
+returns-in-21072 c = rw c.in-21072.is
 
-pub returns : goal.returns
+pub returns-in_default : goal.returns-in_default
 unfolding first_form
-returns c = search tests
+returns-in_default c = search tests

@@ -1,14 +1,10 @@
 -- `operand` meets its contract.
 -- Assumes nothing.
-use Rattle.forms.proofs.Matching.{operand_variable, operand_literal}
+use Rattle.forms.proofs.Matching.{operand_literal, operand_variable}
 use Rattle.forms.proofs.operand.Goals as goal
 
-pub returns-then-l-eq0 : goal.returns-then-l-eq0
-returns-then-l-eq0 c =
-    let a = c.args in
-    operand_variable a.t a.u c.literal-l.ensures c.if-l-eq0.true c.variable.ensures
+pub returns-in-Some : goal.returns-in-Some
+returns-in-Some c = operand_literal c.args.t c.args.u c.literal.ensures c.in-Some.is
 
-pub returns : goal.returns
-returns c =
-    let a = c.args in
-    operand_literal a.t a.u c.literal-l.ensures c.if-l-eq0.false
+pub returns-in-None : goal.returns-in-None
+returns-in-None c = operand_variable c.args.t c.args.u c.literal.ensures c.in-None.is c.variable.ensures

@@ -1,32 +1,37 @@
 -- `operator_number` meets its contract: the table holds the signs in the order of their numbers.
 -- Assumes nothing.
-use mathlib.Core.Path.{◌≡◌}
+use mathlib.Core.Path.{◌≡◌, refl, sym, ◌∙◌}
+use Prim.Native.Nat.{◌+◌}
 use native.Mathlib.Omega.{arith}
-use borrow.Author.Rules.{rules}
-use Rattle.numbers.specs.Bytes.{ascii, number}
+use Rattle.numbers.specs.Bytes.{ascii, field, number}
 use Rattle.numbers.specs.Tests.{numbered}
 use Rattle.program.specs.Cells.{operator_number}
 use Rattle.program.specs.Code.{name_of, names_of}
-use Rattle.program.proofs.Places.{numbered_most}
+use Rattle.program.proofs.Places.{numbered_most, placed, not_placed}
 use Rattle.forms.specs.Code.{operator_by}
 use Rattle.text.specs.Forms.{operator_sign}
 use Rattle.text.proofs.Signs.{operator_signs, operator_placed, none_found, sign_found}
 use Rattle.forms.proofs.operator_number.Goals as goal
 
-pub returns-then-place-eq0 : goal.returns-then-place-eq0
-unfolding operator_by operator_number operator_signs operator_sign ascii names_of name_of number
-returns-then-place-eq0 c =
-    let at : c.place_in-place.result ≡ numbered operator_signs (name_of c.args.key) = c.place_in-place.ensures in
-    none_found (operator_placed (name_of _)) at (search rules)
+-- The place that was found, as a number from 1.
+found : (c : goal.In-Some) → c.in-Some.place + 1 ≡ numbered operator_signs (name_of c.args.key)
+unfolding operator_signs operator_sign ascii names_of name_of field number
+found c = placed (sym c.in-Some.is ∙ c.place_in.ensures)
 
 pub overflow_cast-result : goal.overflow_cast-result
-unfolding operator_signs operator_sign ascii names_of name_of number
-overflow_cast-result c =
-    let at : c.place_in-place.result ≡ numbered operator_signs (name_of c.args.key) = c.place_in-place.ensures in
-    record { fits = omega (arith, at, numbered_most operator_signs (name_of c.args.key)) }
+unfolding operator_signs
+overflow_cast-result c = record { fits = omega (arith, found c, numbered_most operator_signs (name_of c.args.key)) }
 
-pub returns : goal.returns
-unfolding operator_by operator_signs operator_sign ascii names_of name_of number
-returns c =
-    let at : c.place_in-place.result ≡ numbered operator_signs (name_of c.args.key) = c.place_in-place.ensures in
-    sign_found (operator_placed (name_of _)) at (search rules)
+pub overflow_add-result : goal.overflow_add-result
+unfolding operator_signs
+overflow_add-result c = record { fits = omega (arith, found c, numbered_most operator_signs (name_of c.args.key)) }
+
+pub returns-in-Some : goal.returns-in-Some
+unfolding operator_by
+returns-in-Some c = sign_found (operator_placed (name_of _)) (found c) (omega arith)
+
+pub returns-in-None : goal.returns-in-None
+unfolding operator_by operator_number operator_signs operator_sign ascii names_of name_of field number
+returns-in-None c =
+    let at : 0 ≡ numbered operator_signs (name_of c.args.key) = not_placed (sym c.in-None.is ∙ c.place_in.ensures) in
+    none_found (operator_placed (name_of _)) at refl

@@ -1,20 +1,21 @@
--- `operand_at` meets its contract: the tests come in the order of `operand_at`.
+-- `operand_at` meets its contract: the shapes come in the order of `operand_at`.
 -- Assumes nothing.
 use mathlib.Core.Path.{ap, ◌∙◌}
-use Rattle.numbers.proofs.Kit.{fit32, back32, tests}
+use Rattle.numbers.proofs.Kit.{tests}
 use Rattle.numbers.specs.Bits.{signed32}
 use Rattle.program.specs.declared.Operand.TheVariants.{Literal}
+use Rattle.program.proofs.Results.{got32}
 use Rattle.image.specs.Layout.{operand_at}
 use Rattle.image.proofs.operand_at.Goals as goal
 
-pub returns-then-shape-eq-LITERAL : goal.returns-then-shape-eq-LITERAL
+pub returns-in-1 : goal.returns-in-1
 unfolding operand_at
-returns-then-shape-eq-LITERAL c = rw c.if-shape-eq-LITERAL.true (ap Literal (back32 (fit32 _ c.signed.type_inv) ∙ c.signed.ensures ∙ ap signed32 c.read4-number.ensures))
+returns-in-1 c = rw c.in-1.is (ap Literal (got32 _ _ c.signed.type_inv c.signed.ensures ∙ ap signed32 c.read4-number.ensures))
 
-pub returns-then-shape-eq-VARIABLE : goal.returns-then-shape-eq-VARIABLE
+pub returns-in-2 : goal.returns-in-2
 unfolding operand_at
-returns-then-shape-eq-VARIABLE c = rw (c.if-shape-eq-VARIABLE.true, c.read4-number.ensures)
+returns-in-2 c = rw (c.in-2.is, c.read4-number.ensures)
 
-pub returns : goal.returns
+pub returns-in_default : goal.returns-in_default
 unfolding operand_at
-returns c = search tests
+returns-in_default c = let h = c.in_default in search tests

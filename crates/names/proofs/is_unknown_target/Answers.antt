@@ -7,4 +7,4 @@ pub returns-then-target : goal.returns-then-target
 returns-then-target c = no_target_lem _ _ c.if-target.true
 
 pub returns : goal.returns
-returns c = rw c.look_up-row.ensures (target_sought _ _ c.if-target.false)
+returns c = rw (c.is_first.ensures, c.look_up.ensures) (target_sought _ _ c.if-target.false)

@@ -5,4 +5,4 @@ use Rattle.numbers.proofs.Laws.{bytes_two}
 use Rattle.numbers.proofs.eight_bytes.Goals as goal
 
 pub returns : goal.returns
-returns c = bytes_two 4 4 c.args.low c.args.high (omega arith)
+returns c = rw (c.from.ensures, c.from-2.ensures) (bytes_two 4 4 c.args.low c.args.high (omega arith))

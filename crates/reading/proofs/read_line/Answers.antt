@@ -8,13 +8,12 @@ use Rattle.reading.proofs.read_line.Goals as goal
 pub returns-then-is_long : goal.returns-then-is_long
 returns-then-is_long c =
     let l = c.args.l.now in
-    c.faulty.ensures ∙ line_long l (sym c.is_long.ensures ∙ c.if-is_long.true) ∙ line_reads l
+    line_long l (sym c.is_long.ensures ∙ c.if-is_long.true) ∙ line_reads l
 
 pub returns-then-not-is_printable : goal.returns-then-not-is_printable
 returns-then-not-is_printable c =
     let l = c.args.l.now in
-    c.faulty-then-not-is_printable.ensures
-    ∙ line_bad l (sym c.is_long.ensures ∙ c.if-is_long.false) (sym c.is_printable.ensures ∙ c.if-not-is_printable.true)
+    line_bad l (sym c.is_long.ensures ∙ c.if-is_long.false) (sym c.is_printable.ensures ∙ c.if-not-is_printable.true)
     ∙ line_reads l
 
 pub slice_bounds-code-end : goal.slice_bounds-code-end

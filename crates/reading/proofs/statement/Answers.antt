@@ -6,11 +6,11 @@ use Rattle.reading.proofs.statement.Goals as goal
 
 pub returns-then-ts-eq0 : goal.returns-then-ts-eq0
 unfolding statement_by
-returns-then-ts-eq0 c = rw c.faulty.ensures (search tests)
+returns-then-ts-eq0 c = search tests
 
 pub returns-then-ts-eq-MOST : goal.returns-then-ts-eq-MOST
 unfolding statement_by
-returns-then-ts-eq-MOST c = rw c.faulty-then-ts-eq-MOST.ensures (search tests)
+returns-then-ts-eq-MOST c = search tests
 
 pub returns : goal.returns
 unfolding statement_by

@@ -2,7 +2,6 @@
 -- Assumes nothing.
 use mathlib.Core.Path.{◌∙◌}
 use native.Mathlib.Omega.{arith}
-use Rattle.running.specs.Code.{SteppedBy}
 use Rattle.running.proofs.Scripts.{few_events}
 use Rattle.running.proofs.Turns.{stepped_by}
 use Rattle.running.proofs.Courses.{underway, past_last, budget_used, stopped, goes_on}
@@ -34,7 +33,7 @@ loop-machine-smaller c = omega (arith, c.if-last-turns.false)
 
 pub loop-machine-preserved : goal.loop-machine-preserved
 loop-machine-preserved c =
-    let taken : SteppedBy c.args.image.now c.cell_count-cells.result c.args.events.now c.loop-machine.turns c.loop-machine.event c.loop-machine.machine c.turn-turned.result c.later-left.result = stepped_by c.requires.1 c.loop-machine.invariant.inputs c.later-left.ensures c.cell_at-cell.ensures c.turn-turned.ensures in
+    let taken = stepped_by c.requires.1 c.loop-machine.invariant.inputs c.later-left.ensures c.cell_at-cell.ensures c.turn-turned.ensures in
     goes_on c.loop-machine.invariant c.cell_count-cells.ensures c.requires.4 c.if-cells-machine.false c.if-last-turns.false
     taken c.write_record-bytes.ensures.0 c.write_record-bytes.ensures.1 c.if-turned.false
 
@@ -56,6 +55,6 @@ shape_of-records-then-turned c =
 
 pub returns-then-turned : goal.returns-then-turned
 returns-then-turned c =
-    let taken : SteppedBy c.args.image.now c.cell_count-cells.result c.args.events.now c.loop-machine.turns c.loop-machine.event c.loop-machine.machine c.turn-turned.result c.later-left.result = stepped_by c.requires.1 c.loop-machine.invariant.inputs c.later-left.ensures c.cell_at-cell.ensures c.turn-turned.ensures in
+    let taken = stepped_by c.requires.1 c.loop-machine.invariant.inputs c.later-left.ensures c.cell_at-cell.ensures c.turn-turned.ensures in
     stopped c.loop-machine.invariant c.cell_count-cells.ensures c.requires.4 c.if-cells-machine.false c.if-last-turns.false
     taken c.write_record-bytes.ensures.0 c.write_record-bytes.ensures.1 c.if-turned.true

@@ -1,7 +1,7 @@
 -- `started` meets its contract. The invariant: the machine has the start values passed.
 -- Assumes nothing.
 use mathlib.Core.Path.{◌≡◌}
-use Prim.Native.Nat.{◌-◌, ◌≤◌}
+use Prim.Native.Nat.{◌≤◌}
 use lib.ListN.{take}
 use Rattle.image.specs.Layout.{start_values}
 use Rattle.machine.specs.Turn.{start_machine}
@@ -9,6 +9,3 @@ use Rattle.running.proofs.started.Given as goal
 
 abbrev pub invariant-loop-k : goal.invariant-loop-k
 invariant-loop-k l = (l.k ≤ l.count) × (l.machine ≡ start_machine (take l.k (start_values l.image)))
-
-abbrev pub decreases-loop-k : goal.decreases-loop-k
-decreases-loop-k l = l.count - l.k

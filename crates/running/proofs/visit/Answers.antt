@@ -1,8 +1,7 @@
 -- `visit` meets its contract. The invariant: the places still to come, behind those in the buffer, give the whole.
 -- Assumes nothing.
-use mathlib.Core.Path.{◌∙◌}
+use mathlib.Core.Path.{◌≡◌, ◌∙◌}
 use native.Mathlib.Omega.{arith}
-use Rattle.running.specs.Code.{SteppedBy}
 use Rattle.running.proofs.Scripts.{few_events}
 use Rattle.running.proofs.Turns.{stepped_by}
 use Rattle.running.proofs.Visits.{passing, visited_past, visited_spent, visited_stopped, passes_on}
@@ -27,10 +26,6 @@ turn-turned-requires c =
     let due = c.later-rest.ensures in
     (omega (arith, c.if-cells-machine.false), c.loop-taken.invariant.inputs, p.1, (due.order, due.within), few_events _ p.0)
 
-pub overflow_add-taken : goal.overflow_add-taken
-overflow_add-taken c =
-    record { fits = omega (arith, c.loop-taken-test.true, c.ranges.budget.fits) }
-
 pub overflow_cast-result-then-turned : goal.overflow_cast-result-then-turned
 overflow_cast-result-then-turned c =
     record { fits = omega (arith, c.loop-taken-test.true, c.ranges.budget.fits) }
@@ -40,7 +35,7 @@ shape_of-visits-then-turned c = c.write.auto.b ∙ c.loop-taken.invariant.size
 
 pub returns-then-turned : goal.returns-then-turned
 returns-then-turned c =
-    let stepped : SteppedBy c.args.image.now c.cell_count-cells.result c.args.events.now c.loop-taken.taken c.loop-taken.event c.loop-taken.machine c.turn-turned.result c.later-rest.result = stepped_by c.requires.1 c.loop-taken.invariant.inputs c.later-rest.ensures c.cell_at-cell.ensures c.turn-turned.ensures in
+    let stepped = stepped_by c.requires.1 c.loop-taken.invariant.inputs c.later-rest.ensures c.cell_at-cell.ensures c.turn-turned.ensures in
     visited_stopped c.loop-taken.invariant c.cell_count-cells.ensures c.requires.2 c.if-cells-machine.false c.loop-taken-test.true
     stepped c.write.ensures c.if-turned.true
 
@@ -49,7 +44,7 @@ loop-taken-smaller c = omega (arith, c.loop-taken-test.true)
 
 pub loop-taken-preserved : goal.loop-taken-preserved
 loop-taken-preserved c =
-    let stepped : SteppedBy c.args.image.now c.cell_count-cells.result c.args.events.now c.loop-taken.taken c.loop-taken.event c.loop-taken.machine c.turn-turned.result c.later-rest.result = stepped_by c.requires.1 c.loop-taken.invariant.inputs c.later-rest.ensures c.cell_at-cell.ensures c.turn-turned.ensures in
+    let stepped = stepped_by c.requires.1 c.loop-taken.invariant.inputs c.later-rest.ensures c.cell_at-cell.ensures c.turn-turned.ensures in
     passes_on c.loop-taken.invariant c.cell_count-cells.ensures c.requires.2 c.if-cells-machine.false c.loop-taken-test.true
     stepped c.write.ensures c.if-turned.false
 
@@ -57,4 +52,7 @@ pub shape_of-visits : goal.shape_of-visits
 shape_of-visits c = c.loop-taken.invariant.size
 
 pub returns : goal.returns
-returns c = visited_spent c.loop-taken.invariant c.cell_count-cells.ensures c.loop-taken-test.false
+returns c =
+    let l = c.loop-taken in
+    let e : l.taken ≡ c.args.budget = omega (arith, l.invariant.turns) in
+    rw e at (visited_spent l.invariant c.cell_count-cells.ensures (omega arith))

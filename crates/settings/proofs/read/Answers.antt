@@ -1,6 +1,7 @@
 -- `read` meets its contract.
 -- Assumes nothing.
+use mathlib.Core.Path.{◌∙◌}
 use Rattle.settings.proofs.read.Goals as goal
 
 pub returns : goal.returns
-returns c = record { answers = c.read_up_to.ensures }
+returns c = record { answers = c.answered.ensures ∙ c.read_up_to.ensures }

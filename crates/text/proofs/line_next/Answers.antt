@@ -1,20 +1,24 @@
 -- `line_next` meets its contract.
 -- Assumes nothing.
-use borrow.Author.Tests.{eq-eqb, ne_eqb}
+use borrow.Author.Tests.{eq-eqb, ne_eqb, ltb-true, ltb-false}
 use mathlib.Core.Bool.{true, false}
+use mathlib.Core.Path.{sym, ◌∙◌}
 use native.Mathlib.Nat.{add-zero}
 use Rattle.text.proofs.Lines.{ending, ending_none}
 use Rattle.text.proofs.line_next.Goals as goal
 
-pub returns-then-s-end : goal.returns-then-s-end
-returns-then-s-end c = let a = c.args in simp (ending_none a.s.now a.end c.if-s-end.true, add-zero)
+pub returns-in-None : goal.returns-in-None
+returns-in-None c =
+    let a = c.args in simp (ending_none a.s.now a.end (ltb-false _ _ (sym c.in-None.ensures.lookup.0)), add-zero)
 
-pub returns-then-s-end-eq10 : goal.returns-then-s-end-eq10
-returns-then-s-end-eq10 c =
+pub returns-in-Some-eq10 : goal.returns-in-Some-eq10
+returns-in-Some-eq10 c =
     let a = c.args in
-    simp (ending a.s.now a.end true c.if-s-end.false (eq-eqb _ _ c.if-s-end-eq10.true))
+    let f = c.in-Some-eq10.ensures.lookup in
+    simp (ending a.s.now a.end true (ltb-true _ _ (sym f.0)) (eq-eqb _ _ (sym (f.3.1 0) ∙ c.in-Some-eq10.field-0-test)))
 
-pub returns : goal.returns
-returns c =
+pub returns-in-Some : goal.returns-in-Some
+returns-in-Some c =
     let a = c.args in
-    simp (ending a.s.now a.end false c.if-s-end.false (ne_eqb _ _ c.if-s-end-eq10.false))
+    let f = c.in-Some.ensures.lookup in
+    simp (ending a.s.now a.end false (ltb-true _ _ (sym f.0)) (ne_eqb _ _ (λ e. c.in-Some.field-0-test.1 (f.3.1 0 ∙ e))))

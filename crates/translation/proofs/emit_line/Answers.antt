@@ -7,18 +7,24 @@ use Rattle.translation.proofs.Writing.{emit_cell, emit_label, emit_variable, emi
 use borrow.Author.Rules.{rules}
 use Rattle.translation.proofs.emit_line.Goals as goal
 
-pub returns-then-acts : goal.returns-then-acts
-returns-then-acts c =
-    emit_cell c.args.rows.now c.args.reading c.args.places c.args.buffer.now c.resolve.result c.if-acts.true c.resolve.ensures c.write_cell.ensures
+pub returns-in-Blank : goal.returns-in-Blank
+returns-in-Blank c = rw c.in-Blank.is (emit_none c.args.names.rows.now c.args.places c.args.buffer.now refl)
 
-pub returns-then-kind-eq-LABEL : goal.returns-then-kind-eq-LABEL
-returns-then-kind-eq-LABEL c =
-    emit_label c.args.rows.now c.args.reading c.args.places c.args.buffer.now c.place_of.result c.if-kind-eq-LABEL.true c.place_of.ensures c.write_label.ensures
+pub returns-in-Label : goal.returns-in-Label
+returns-in-Label c =
+    let a = c.args in
+    rw c.in-Label.is (emit_label a.names.rows.now a.places a.buffer.now c.in-Label.name c.place_of.result c.place_of.ensures c.write_label.ensures)
 
-pub returns-then-kind-eq-DECLARED : goal.returns-then-kind-eq-DECLARED
-returns-then-kind-eq-DECLARED c =
-    emit_variable c.args.rows.now c.args.reading c.args.places c.args.buffer.now (to_z w32 (of_z w32 c.args.reading.start)) c.if-kind-eq-DECLARED.true (search rules) c.write_variable.ensures
+pub returns-in-Declared : goal.returns-in-Declared
+returns-in-Declared c =
+    let a = c.args in
+    rw c.in-Declared.is
+    (emit_variable a.names.rows.now a.places a.buffer.now c.in-Declared.name c.in-Declared.start (to_z w32 (of_z w32 c.in-Declared.start)) (search rules) c.write_variable.ensures)
 
-pub returns : goal.returns
-returns c =
-    emit_none c.args.rows.now c.args.reading c.args.places c.args.buffer.now c.if-acts.false c.if-kind-eq-LABEL.false c.if-kind-eq-DECLARED.false refl
+pub resolve-requires : goal.resolve-requires
+resolve-requires c = rw c.in-Acts.is at c.requires.keyed
+
+pub returns-in-Acts : goal.returns-in-Acts
+returns-in-Acts c =
+    let a = c.args in
+    rw c.in-Acts.is (emit_cell a.names.rows.now a.places a.buffer.now c.in-Acts.cell c.resolve.result c.resolve.ensures c.write_cell.ensures)

@@ -1,34 +1,33 @@
 -- `emit_lines` meets its contract. The loop's invariant: what is left to write gives the whole.
 -- Assumes nothing.
-use native.Mathlib.Omega.{arith}
-use Rattle.names.proofs.Asking.{keyed_by}
+use mathlib.Core.Path.{ap, ◌∙◌}
+use Rattle.text.specs.declared.LinesLeft.{LinesLeft}
+use Rattle.names.proofs.Asking.{told_keyed}
 use Rattle.translation.proofs.Known.{low}
-use Rattle.translation.proofs.Writing.{writing_first, writing_more, writing_done}
+use Rattle.translation.proofs.Writing.{writing_first, writing_more, writing_done, places_low}
 use Rattle.translation.proofs.emit_lines.Goals as goal
 
-pub loop-at-init : goal.loop-at-init
-loop-at-init c =
-    writing_first c.args.s.now c.args.start c.args.buffer.now c.requires.faultless.clear c.requires.within
+pub loop-line-init : goal.loop-line-init
+loop-line-init c =
+    writing_first _ _ _ _ (ap (λ (z : LinesLeft). z.rest.now) c.into_iter-line-iterator.ensures.into_iter_gives ∙ c.lines_of-line-items.ensures)
+    c.requires.faultless.clear c.requires.within
+
+pub invariant_of-names : goal.invariant_of-names
+invariant_of-names c = record { low = rw c.requires.arranged (low _ c.requires.faultless.short) }
 
 pub emit_line-places-requires : goal.emit_line-places-requires
 emit_line-places-requires c =
-    let n = c.loop-at.invariant.low in
     record {
-      low = rw c.requires.arranged (low _ c.requires.faultless.short);
-      keyed = keyed_by _ c.read_line-reading.result c.read_line-reading.ensures;
-      within = record { cell = omega (arith, n.cell); label = omega (arith, n.label); variable = omega (arith, n.variable) };
+      keyed = told_keyed _ c.read_line.ensures c.unwrap_or-said.ensures;
+      within = places_low c.loop-line.invariant c.in-Some.ensures.steps c.requires.faultless.short;
     }
 
-pub loop-at-preserved : goal.loop-at-preserved
-loop-at-preserved c =
-    let a = c.args in
-    writing_more a.s.now a.start a.buffer.now c.loop-at.buffer c.loop-at.places c.loop-at.at c.loop-at.invariant c.line_at-span.result c.read_line-reading.result c.emit_line-places.result
-    _ _ c.requires.arranged c.line_at-span.ensures c.read_line-reading.ensures c.emit_line-places.ensures.0 c.emit_line-places.ensures.1
+pub loop-line-preserved : goal.loop-line-preserved
+loop-line-preserved c =
+    writing_more c.loop-line.invariant c.in-Some.ensures.steps c.requires.arranged c.read_line.ensures c.unwrap_or-said.ensures c.emit_line-places.ensures
 
 pub shape_of-buffer : goal.shape_of-buffer
-shape_of-buffer c = c.loop-at.invariant.size
+shape_of-buffer c = c.loop-line.invariant.size
 
 pub returns : goal.returns
-returns c =
-    let a = c.args in
-    writing_done a.s.now a.start a.buffer.now c.loop-at.buffer c.loop-at.places c.loop-at.at c.loop-at.invariant c.loop-at-test.false
+returns c = writing_done c.loop-line.invariant c.in-None.ensures.steps.0

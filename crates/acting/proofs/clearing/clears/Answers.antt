@@ -4,15 +4,14 @@ use Rattle.program.proofs.Results.{held, failed}
 use Rattle.effects.specs.Deeds.{in_error, clears}
 use Rattle.acting.proofs.Reading.{no_error}
 use Rattle.acting.proofs.clearing.clears.Goals as goal
+use Rattle.acting.proofs.clearing.clears.Goals.{in-Fails, in_default}
 
-pub returns-in-Fails : goal.returns-in-Fails
+pub returns-after-matches : goal.returns-after-matches
 unfolding clears in_error
-returns-in-Fails c = rw (c.in-Fails.is, held c.reads_er.ensures c.if-reads_er.true)
+returns-after-matches c =
+    let reads = held c.reads_er.ensures c.if-reads_er.true in
+    elim c.match-matches.branch [ in-Fails w ↦ rw (w.matches-is, w.in-Fails.is, reads) | in_default w ↦ rw (w.matches-is, no_error _ w.in_default.not-Fails, reads) ]
 
-pub returns-in_default : goal.returns-in_default
+pub returns-else-reads_er : goal.returns-else-reads_er
 unfolding clears
-returns-in_default c = rw (no_error _ c.in_default.not-Fails, held c.reads_er.ensures c.if-reads_er.true)
-
-pub returns : goal.returns
-unfolding clears
-returns c = rw (failed c.reads_er.ensures c.if-reads_er.false)
+returns-else-reads_er c = rw (c.if-reads_er.false, failed c.reads_er.ensures c.if-reads_er.false)

@@ -14,10 +14,10 @@ pub returns-in-2 : goal.returns-in-2
 returns-in-2 c = by_number_lem _ _ _ _ _ c.in-2.is (c.set_with.ensures ∙ does_set_with _ _ _ _)
 
 pub returns-in-3 : goal.returns-in-3
-returns-in-3 c = by_number_lem _ _ _ _ _ c.in-3.is (c.count_up.ensures ∙ does_count_up _ _ _ _)
+returns-in-3 c = by_number_lem _ _ _ _ _ c.in-3.is (c.count.ensures ∙ does_count_up _ _ _ _)
 
 pub returns-in-4 : goal.returns-in-4
-returns-in-4 c = by_number_lem _ _ _ _ _ c.in-4.is (c.count_down.ensures ∙ does_count_down _ _ _ _)
+returns-in-4 c = by_number_lem _ _ _ _ _ c.in-4.is (c.count-in-4.ensures ∙ does_count_down _ _ _ _)
 
 pub returns-in-5 : goal.returns-in-5
 returns-in-5 c = by_number_lem _ _ _ _ _ c.in-5.is (c.branch-vars.ensures ∙ does_branch _ _ _ _)

@@ -1,10 +1,7 @@
 -- `holding` meets its contract: what is in the range of a hold is a number of turns above 0.
 -- Assumes nothing.
-use mathlib.Core.Path.{◌≡◌}
 use borrow.Author.Tests.{le-ltb}
 use Rattle.numbers.proofs.Kit.{tests, wide, back32, back64}
-use Rattle.program.specs.Variables.{hold_range}
-use Rattle.program.specs.Variables.{in_range}
 use Rattle.effects.specs.Effects.{holding}
 use Rattle.program.proofs.Results.{tested, held, failed}
 use Rattle.acting.proofs.Kit.{turns_fit, turns_some}
@@ -19,22 +16,22 @@ overflow_cast-x c = wide c.ranges.x
 
 pub overflow_cast-result : goal.overflow_cast-result
 overflow_cast-result c =
-    let is_in_range : c.holds.result ≡ in_range hold_range c.args.x = tested c.holds.ensures c.hold_range.ensures (back64 c.ranges.x) in
+    let is_in_range = tested c.holds.ensures c.hold_range.ensures (back64 c.ranges.x) in
     turns_fit c.ranges.x (held is_in_range c.if-holds.true)
 
 pub overflow_sub-result-then-holds : goal.overflow_sub-result-then-holds
 overflow_sub-result-then-holds c =
-    let is_in_range : c.holds.result ≡ in_range hold_range c.args.x = tested c.holds.ensures c.hold_range.ensures (back64 c.ranges.x) in
+    let is_in_range = tested c.holds.ensures c.hold_range.ensures (back64 c.ranges.x) in
     turns_some c.ranges.x (held is_in_range c.if-holds.true)
 
 pub returns-then-holds : goal.returns-then-holds
 unfolding holding
 returns-then-holds c =
-    let is_in_range : c.holds.result ≡ in_range hold_range c.args.x = tested c.holds.ensures c.hold_range.ensures (back64 c.ranges.x) in
+    let is_in_range = tested c.holds.ensures c.hold_range.ensures (back64 c.ranges.x) in
     simp (le-ltb _ _ c.if-hold-gt0.false, back32 c.ranges.x, held is_in_range c.if-holds.true)
 
 pub returns : goal.returns
 unfolding holding
 returns c =
-    let is_in_range : c.holds.result ≡ in_range hold_range c.args.x = tested c.holds.ensures c.hold_range.ensures (back64 c.ranges.x) in
+    let is_in_range = tested c.holds.ensures c.hold_range.ensures (back64 c.ranges.x) in
     simp (le-ltb _ _ c.if-hold-gt0.false, failed is_in_range c.if-holds.false)

@@ -1,10 +1,8 @@
 -- `moving` meets its contract: MV is 1 where its bits are, and a target in the range of literals fits 32 bits.
 -- Assumes nothing.
-use mathlib.Core.Path.{◌≡◌}
 use mir.Facts.{to_z-of_z}
 use mir.Syntax.{w64}
 use Rattle.numbers.proofs.Kit.{back32}
-use Rattle.program.specs.Variables.{in_range, literals}
 use Rattle.effects.specs.Effects.{moving}
 use Rattle.program.proofs.Results.{tested, held, failed}
 use Rattle.acting.proofs.Kit.{is_one, not_one, narrow, narrowed}
@@ -16,13 +14,13 @@ returns-then-read-eq1 c = let x = c.read in simp (is_one _ _ x.type_inv x.ensure
 
 pub overflow_cast-result : goal.overflow_cast-result
 overflow_cast-result c =
-    let is_in_range : c.holds.result ≡ in_range literals c.args.target = tested c.holds.ensures c.literals.ensures (to_z-of_z {w = w64} c.ranges.target) in
+    let is_in_range = tested c.holds.ensures c.literals.ensures (to_z-of_z {w = w64} c.ranges.target) in
     narrow c.ranges.target (held is_in_range c.if-holds.true)
 
 pub returns-then-holds : goal.returns-then-holds
 unfolding moving
 returns-then-holds c =
-    let is_in_range : c.holds.result ≡ in_range literals c.args.target = tested c.holds.ensures c.literals.ensures (to_z-of_z {w = w64} c.ranges.target) in
+    let is_in_range = tested c.holds.ensures c.literals.ensures (to_z-of_z {w = w64} c.ranges.target) in
     let f = c.ranges in
     let x = c.read in
     let t = held is_in_range c.if-holds.true in
@@ -31,7 +29,7 @@ returns-then-holds c =
 pub returns : goal.returns
 unfolding moving
 returns c =
-    let is_in_range : c.holds.result ≡ in_range literals c.args.target = tested c.holds.ensures c.literals.ensures (to_z-of_z {w = w64} c.ranges.target) in
+    let is_in_range = tested c.holds.ensures c.literals.ensures (to_z-of_z {w = w64} c.ranges.target) in
     let f = c.ranges in
     let x = c.read in
     simp (

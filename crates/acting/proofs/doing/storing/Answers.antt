@@ -1,9 +1,7 @@
 -- `storing` meets its contract: the test of range is that of the variable, at VI and VM as they are read.
 -- Assumes nothing.
-use mathlib.Core.Path.{◌≡◌}
 use Rattle.numbers.proofs.Kit.{wide, back32, back64}
-use Rattle.program.specs.Variables.{in_range, range_of}
-use Rattle.effects.specs.Effects.{storing, read}
+use Rattle.effects.specs.Effects.{storing}
 use Rattle.program.proofs.Results.{got32, tested, held, failed}
 use Rattle.acting.proofs.doing.storing.Goals as goal
 
@@ -13,15 +11,15 @@ overflow_cast-value c = wide c.ranges.value
 pub returns-then-holds : goal.returns-then-holds
 unfolding storing
 returns-then-holds c =
-    let is_in_range : c.holds.result ≡ in_range (range_of c.args.v (read c.args.vars.now 8) (read c.args.vars.now 9)) c.args.value = let vi = c.read in
+    let vi = c.read in
     let vm = c.read-2 in
-    tested c.holds.ensures (simp (got32 _ _ vi.type_inv vi.ensures, got32 _ _ vm.type_inv vm.ensures) at c.range-range.ensures) (back64 c.ranges.value) in
+    let is_in_range = tested c.holds.ensures (simp (got32 _ _ vi.type_inv vi.ensures, got32 _ _ vm.type_inv vm.ensures) at c.range-range.ensures) (back64 c.ranges.value) in
     simp (back32 c.ranges.value, held is_in_range c.if-holds.true)
 
 pub returns : goal.returns
 unfolding storing
 returns c =
-    let is_in_range : c.holds.result ≡ in_range (range_of c.args.v (read c.args.vars.now 8) (read c.args.vars.now 9)) c.args.value = let vi = c.read in
+    let vi = c.read in
     let vm = c.read-2 in
-    tested c.holds.ensures (simp (got32 _ _ vi.type_inv vi.ensures, got32 _ _ vm.type_inv vm.ensures) at c.range-range.ensures) (back64 c.ranges.value) in
+    let is_in_range = tested c.holds.ensures (simp (got32 _ _ vi.type_inv vi.ensures, got32 _ _ vm.type_inv vm.ensures) at c.range-range.ensures) (back64 c.ranges.value) in
     simp (failed is_in_range c.if-holds.false)

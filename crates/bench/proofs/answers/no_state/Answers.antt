@@ -5,4 +5,4 @@ use Rattle.bench.proofs.answers.no_state.Goals as goal
 
 pub returns : goal.returns
 unfolding no_state
-returns c = rw c.no_place-places.ensures
+returns c = rw c.no_place.ensures

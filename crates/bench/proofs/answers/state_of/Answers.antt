@@ -7,4 +7,4 @@ use Rattle.bench.proofs.answers.state_of.Goals as goal
 pub returns : goal.returns
 unfolding state_of
 returns c =
-    rw (back32 (fit32 c.motion_value-value.result c.motion_value-value.type_inv), c.motion_value-value.ensures, c.motion_number-number.ensures, c.places_of-told.ensures)
+    rw (back32 (fit32 c.motion_value.result c.motion_value.type_inv), c.motion_value.ensures, c.motion_number.ensures, c.places_of-places.ensures)

@@ -27,6 +27,6 @@ returns c =
     let n : c.args.at + 12 ≡ c.args.at + length (record_bytes c.args.turn c.args.r) = rw (record_size c.args.turn c.args.r k) in (
       n,
       record_written c.args.turn c.args.r k c.args.b.now c.args.at
-          c.write.ensures c.write-2.ensures c.write-3.ensures c.write-4.ensures
-          (c.digits.ensures ∙ ap digits32 (back32 f)) c.write-5.ensures,
+          (rw c.from.ensures at c.write.ensures) (rw c.from-2.ensures at c.write-2.ensures) (rw c.from-3.ensures at c.write-3.ensures) c.write-4.ensures
+          (c.from-4.ensures ∙ c.digits.ensures ∙ ap digits32 (back32 f)) c.write-5.ensures,
     )

@@ -9,9 +9,6 @@ use Rattle.machine.proofs.Machine.turn.Goals as goal
 pub slice_bounds-effect-end : goal.slice_bounds-effect-end
 slice_bounds-effect-end c = let n : length c.args.self.variables ≡ 64 = search rules in sym (c.reach-motion.ensures.size ∙ n)
 
-pub change-requires : goal.change-requires
-change-requires c = let n : length c.args.self.variables ≡ 64 = search rules in c.reach-motion.ensures.size ∙ n
-
 pub after-requires : goal.after-requires
 after-requires c = (c.requires.0, ready _ c.args.self.places.kept c.args.self.hold _ c.effect-does.ensures)
 

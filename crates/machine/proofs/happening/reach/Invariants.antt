@@ -11,6 +11,3 @@ abbrev pub invariant-loop-k : goal.invariant-loop-k
 invariant-loop-k l = (l.first ≤ l.k) × (l.k ≤ l.last) × Inputs l.vars
     × ((m : Machine) → acts l.events l.k (l.last - l.k) (moving l.vars l.here m) ≡ acts l.events l.first (l.last - l.first) (moving l.initial.vars l.initial.here m))
     × (length l.vars ≡ length l.initial.vars)
-
-abbrev pub decreases-loop-k : goal.decreases-loop-k
-decreases-loop-k l = l.last - l.k

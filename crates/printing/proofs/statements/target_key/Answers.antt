@@ -1,8 +1,7 @@
 -- `target_key` meets its contract.
 -- Assumes nothing.
-use mathlib.Core.Path.{sym}
+use Rattle.std.proofs.Common.{rules}
 use borrow.Author.Tests.{eq-eqb, ne_eqb}
-use lib.ListN.{get_or-eq_default}
 use Rattle.program.specs.Cells.{no_target}
 use Rattle.printing.specs.Code.{target_key}
 use Rattle.printing.proofs.statements.target_key.Goals as goal
@@ -11,10 +10,6 @@ pub returns-then-target-eq-NO_TARGET : goal.returns-then-target-eq-NO_TARGET
 unfolding target_key no_target
 returns-then-target-eq-NO_TARGET c = rw (eq-eqb _ _ c.if-target-eq-NO_TARGET.true)
 
-pub returns-then-firsts-target : goal.returns-then-firsts-target
-unfolding target_key no_target
-returns-then-firsts-target c = rw (ne_eqb _ _ c.if-target-eq-NO_TARGET.false) (sym (get_or-eq_default c.args.firsts.now 0 c.if-firsts-target.true))
-
 pub returns : goal.returns
 unfolding target_key no_target
-returns c = rw (ne_eqb _ _ c.if-target-eq-NO_TARGET.false)
+returns c = rw (ne_eqb _ _ c.if-target-eq-NO_TARGET.false) (search rules)

@@ -1,17 +1,10 @@
--- `Variable::key` meets its contract: the table holds the paper's names in their order, two bytes each.
+-- `Variable::key` meets its contract: the table holds the paper's names in their order.
 -- Assumes nothing.
-use mathlib.Core.Path.{refl, ap, ◌∙◌}
-use mathlib.Core.List.{[]}
-use Prim.Native.Nat.{ℕ}
-use lib.ListN.{get_or}
-use Rattle.numbers.specs.Bytes.{ascii, number}
+use Rattle.numbers.specs.Bytes.{ascii, field, number}
 use Rattle.program.specs.Names.{variable_names}
-use Rattle.program.specs.Code.{key, name_of, names_of}
-use Rattle.program.proofs.Places.{key_at_lem}
+use Rattle.program.specs.Code.{name_of, names_of}
 use Rattle.program.proofs.Variable.key.Goals as goal
 
 pub returns : goal.returns
-unfolding variable_names ascii names_of name_of number
-returns c =
-    c.read2.ensures ∙ key_at_lem _ _ refl
-    ∙ ap (λ (i : ℕ). key (get_or variable_names i [])) c.one_less-place.ensures
+unfolding variable_names ascii names_of name_of field number
+returns c = c.key_of.ensures

@@ -1,9 +1,8 @@
 -- `is_digit` meets its contract.
 -- Assumes nothing.
-use mathlib.Core.Path.{refl}
 use Rattle.program.specs.Names.{digit}
 use Rattle.program.proofs.names.is_digit.Goals as goal
 
 pub returns : goal.returns
 unfolding digit
-returns c = refl
+returns c = c.is_ascii_digit.ensures.value

@@ -1,29 +1,19 @@
--- `place_in` meets its contract. The loop's invariant: the place among the names that are left gives the place in the whole table.
+-- `place_in` meets its contract: the first row with the key.
 -- Assumes nothing.
-use mathlib.Core.Path.{sym, ◌∙◌}
-use native.Mathlib.Omega.{arith}
-use Rattle.program.proofs.Places.{all_left, found, passed, none_left}
+use mathlib.Core.Path.{◌∙◌}
+use Prim.Native.Nat.{ℕ}
+use mathlib.Core.List.{List}
+use lib.Dec.{eqb}
+use mir.Syntax.{w16}
+use borrow.Author.Tests.{tests}
+use Rattle.std.proofs.Common.{rules}
+use Rattle.std.specs.Int.{from_le_bytes}
+use Rattle.std.proofs.lemmas.Iterator.{YieldsList-from_slice}
+use Rattle.std.proofs.lemmas.Iterator.Search.{position_from_yields_List}
+use Rattle.program.proofs.Places.{place_found}
 use Rattle.program.proofs.names.place_in.Goals as goal
-
-pub loop-i-init : goal.loop-i-init
-loop-i-init c = (omega arith, all_left c.args.key c.args.table.now)
-
-pub returns-then-read2-key : goal.returns-then-read2-key
-returns-then-read2-key c =
-    let a = c.args in
-    let l = c.loop-i in
-    sym (found l.i a.key a.table.now (omega arith) (cc)) ∙ l.invariant.1
-
-pub loop-i-preserved : goal.loop-i-preserved
-loop-i-preserved c =
-    let a = c.args in
-    let l = c.loop-i in
-    let n = c.if-read2-key.false in
-    let e = c.read2.ensures in
-    (omega arith, sym (passed l.i a.key a.table.now (omega arith) (λ f. n (e ∙ f))) ∙ l.invariant.1)
 
 pub returns : goal.returns
 returns c =
-    let a = c.args in
-    let l = c.loop-i in
-    sym (none_left l.i a.key a.table.now (omega arith)) ∙ l.invariant.1
+    position_from_yields_List (λ (row : List ℕ). eqb (from_le_bytes w16 row) c.args.key) _ _ _ c.position.ensures.ran (YieldsList-from_slice c.args.table.now cc) (λ x b q k. search (rules, tests))
+    ∙ place_found c.args.key c.args.table.now

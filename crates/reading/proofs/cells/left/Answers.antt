@@ -1,12 +1,13 @@
 -- `left` meets its contract.
 -- Assumes nothing.
+use mathlib.Core.Logic.{⊎_elim}
 use Rattle.reading.specs.Code.{left_by}
 use Rattle.reading.proofs.cells.left.Goals as goal
 
-pub returns-then-shape : goal.returns-then-shape
+pub returns-in-NoOperand : goal.returns-in-NoOperand
 unfolding left_by
-returns-then-shape c = rw (c.operand.ensures, c.if-shape.true)
+returns-in-NoOperand c = ⊎_elim (λ e. rw e) (λ e. rw e) c.in-NoOperand.is
 
-pub returns : goal.returns
+pub returns-in-One : goal.returns-in-One
 unfolding left_by
-returns c = rw c.if-shape.false
+returns-in-One c = ⊎_elim (λ e. rw e c.operand.ensures) (λ e. rw e c.operand.ensures) c.in-One.is

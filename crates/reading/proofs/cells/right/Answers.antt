@@ -1,13 +1,13 @@
 -- `right` meets its contract.
 -- Assumes nothing.
-use Rattle.numbers.proofs.Kit.{tests}
+use mathlib.Core.Logic.{⊎_elim}
 use Rattle.reading.specs.Code.{right_by}
 use Rattle.reading.proofs.cells.right.Goals as goal
 
-pub returns-then-shape-eq-TWO : goal.returns-then-shape-eq-TWO
+pub returns-in-NoOperand : goal.returns-in-NoOperand
 unfolding right_by
-returns-then-shape-eq-TWO c = rw c.operand.ensures (search tests)
+returns-in-NoOperand c = ⊎_elim (λ e. rw e) (λ q. ⊎_elim (λ e. rw e) (λ e. rw e) q) c.in-NoOperand.is
 
-pub returns : goal.returns
+pub returns-in-Two : goal.returns-in-Two
 unfolding right_by
-returns c = search tests
+returns-in-Two c = rw c.in-Two.is c.operand.ensures

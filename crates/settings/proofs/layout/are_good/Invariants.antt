@@ -1,14 +1,9 @@
 -- `are_good` meets its contract: the invariant: the pairs that are left are good behind the last number exactly if all are.
 -- Assumes nothing.
 use mathlib.Core.Path.{◌≡◌}
-use Prim.Native.Nat.{◌-◌, ◌/◌, ◌≤◌}
-use lib.ListN.{length}
 use Rattle.settings.specs.Layout.{pairs_of, good_pairs}
 use Rattle.settings.proofs.Loops.{rest}
 use Rattle.settings.proofs.layout.are_good.Given as goal
 
 abbrev pub invariant-loop-i : goal.invariant-loop-i
-invariant-loop-i l = (good_pairs l.last (rest l.s l.count l.i) ≡ good_pairs 0 (pairs_of l.s)) × (l.i ≤ l.count) × (l.count ≡ length l.s / 8 - 1)
-
-abbrev pub decreases-loop-i : goal.decreases-loop-i
-decreases-loop-i l = l.count - l.i
+invariant-loop-i l = good_pairs l.last (rest l.s l.count l.i) ≡ good_pairs 0 (pairs_of l.s)

@@ -11,4 +11,4 @@ use Rattle.settings.proofs.layout.trailer.Goals as goal
 
 pub returns : goal.returns
 unfolding trailer
-returns c = c.eight_bytes.ensures ∙ ap (λ (l : List ℕ). bytes 4 0 ++ l) (bytes_two 2 2 _ _ (omega arith))
+returns c = c.eight_bytes.ensures ∙ ap (λ (l : List ℕ). bytes 4 0 ++ l) (rw (c.from.ensures, c.from-2.ensures) (bytes_two 2 2 _ _ (omega arith)))

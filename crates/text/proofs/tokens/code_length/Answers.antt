@@ -1,17 +1,12 @@
--- `code_length` meets its contract. The loop's invariant: what is left from here gives the whole.
+-- `code_length` meets its contract.
 -- Assumes nothing.
-use native.Mathlib.Numerals.{add-one}
-use native.Mathlib.Omega.{arith}
-use Rattle.text.proofs.Scanning.{code_more, code_stop, code_end}
+use lib.ListN.{length}
+use mathlib.Core.Path.{ap, ◌∙◌}
+use Rattle.std.specs.Prelude.{unwrap_or}
+use Rattle.text.proofs.Scanning.{code_position}
 use Rattle.text.proofs.tokens.code_length.Goals as goal
 
-pub returns-then-l-i-eq39 : goal.returns-then-l-i-eq39
-returns-then-l-i-eq39 c =
-    omega (arith, code_stop c.args.l.now c.loop-i.i c.loop-i-test.true c.if-l-i-eq39.true)
-
-pub loop-i-preserved : goal.loop-i-preserved
-loop-i-preserved c =
-    simp add-one (omega (arith, code_more c.args.l.now c.loop-i.i c.loop-i-test.true c.if-l-i-eq39.false))
-
 pub returns : goal.returns
-returns c = omega (arith, code_end c.args.l.now c.loop-i.i c.loop-i-test.false)
+returns c =
+    let l = c.args.l.now in
+    c.unwrap_or.ensures ∙ ap (λ o. unwrap_or o (length l)) c.comment_start.ensures ∙ code_position l

@@ -4,14 +4,14 @@ use Rattle.numbers.proofs.Kit.{tests}
 use Rattle.text.specs.Code.{key_with}
 use Rattle.text.proofs.tokens.key_with.Goals as goal
 
-pub returns-then-size-eq0 : goal.returns-then-size-eq0
+pub returns-in-0 : goal.returns-in-0
 unfolding key_with
-returns-then-size-eq0 c = search tests
+returns-in-0 c = rw (c.in-0.is, c.from.ensures)
 
-pub returns-then-size-eq1 : goal.returns-then-size-eq1
+pub returns-in-1 : goal.returns-in-1
 unfolding key_with
-returns-then-size-eq1 c = search tests
+returns-in-1 c = rw (c.in-1.is, c.from-in-1.ensures)
 
-pub returns : goal.returns
+pub returns-in_default : goal.returns-in_default
 unfolding key_with
-returns c = search tests
+returns-in_default c = search tests

@@ -1,22 +1,19 @@
 -- `value_with` meets its contract.
 -- Assumes nothing.
-use native.Mathlib.Omega.{arith}
 use Rattle.text.specs.Code.{value_with}
+use Rattle.text.proofs.Scanning.{digit_above, digit_more, digit_none}
 use Rattle.text.proofs.tokens.value_with.Goals as goal
 
-pub overflow_mul-result : goal.overflow_mul-result
-overflow_mul-result c = omega (arith, c.requires c.if-digits.true)
-
-pub overflow_sub-result : goal.overflow_sub-result
-overflow_sub-result c = omega (arith, c.requires c.if-digits.true)
-
-pub overflow_add-result : goal.overflow_add-result
-overflow_add-result c = omega (arith, c.requires c.if-digits.true)
-
-pub returns-then-digits : goal.returns-then-digits
+pub returns-in_err-value : goal.returns-in_err-value
 unfolding value_with
-returns-then-digits c = rw c.if-digits.true
+returns-in_err-value c = rw (c.from_residual.ensures, c.in_err-value.was)
+
+pub overflow_sub-c : goal.overflow_sub-c
+overflow_sub-c c = digit_above c.args.c _ _ c.is_digit.ensures c.if-is_digit-size.true
+
+pub returns-then-is_digit-size : goal.returns-then-is_digit-size
+returns-then-is_digit-size c =
+    rw c.in_ok-value.was (digit_more c.args.size c.in_ok-value.value c.args.c c.is_digit.ensures c.if-is_digit-size.true c.from.ensures)
 
 pub returns : goal.returns
-unfolding value_with
-returns c = rw c.if-digits.false
+returns c = rw c.in_ok-value.was (digit_none c.args.size c.in_ok-value.value c.args.c c.is_digit.ensures c.if-is_digit-size.false)

@@ -1,8 +1,0 @@
--- `key_at` meets its contract: a field of the record at its place.
--- Assumes nothing.
-use Rattle.checking.specs.Code.{key_of}
-use Rattle.checking.proofs.key_at.Goals as goal
-
-pub returns : goal.returns
-unfolding key_of
-returns c = rw (c.read2.ensures, c.record_place.ensures)

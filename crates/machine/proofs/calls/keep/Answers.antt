@@ -1,9 +1,0 @@
--- `keep` meets its contract: one place is set.
--- Assumes nothing.
-use borrow.Author.Rules.{rules}
-use Rattle.machine.specs.Turn.{keep}
-use Rattle.machine.proofs.calls.keep.Goals as goal
-
-pub returns : goal.returns
-unfolding keep
-returns c = search rules
