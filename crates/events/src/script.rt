@@ -83,13 +83,35 @@ pub fn event_at(s: &[u8], k: usize) -> Event
     }
 }
 
-// The same of an event that is there.
-// Stays: it asks that the event is there, as its callers know; `event_at` answers for zeros behind the end too.
+// The number in two bytes and in four that are there, the lowest first.
+fn two(s: &[u8], from: usize) -> u16
+    requires { from + 2 ≤ length s.now }
+    ensures { result ≡ field 2 from s.now }
+{
+    u16::from_le_bytes([s[from], s[from + 1]])
+}
+
+fn four(s: &[u8], from: usize) -> u32
+    requires { from + 4 ≤ length s.now }
+    ensures { result ≡ field 4 from s.now }
+{
+    u32::from_le_bytes([s[from], s[from + 1], s[from + 2], s[from + 3]])
+}
+
+// The same of an event that is there: its bytes are read as they stand.
+// Stays: tried `event_at(s, k)` in its place: a run takes 1.5 times as long, since each byte is then tested for the end (`speed run`).
 pub fn whole_event(s: &[u8], k: usize) -> Event
     requires { (k < event_count s.now) × (event_count s.now ≤ 8192) }
     ensures { result ≡ event_at s.now k }
 {
-    event_at(s, k)
+    let at = SIZE * k;
+    Event {
+        turn: four(s, at),
+        kind: s[at + KIND],
+        number: s[at + NUMBER],
+        zeros: two(s, at + ZEROS),
+        value: numbers::signed(four(s, at + VALUE)),
+    }
 }
 
 // How many events the script has.
