@@ -18,7 +18,7 @@ use Rattle.program.proofs.Keys.{key_name}
 use Rattle.text.specs.Forms.{Parts}
 use Rattle.text.specs.Code.{token_at, spelt}
 use Rattle.forms.specs.Code.{no_match, fill_by, slots_of, form_for, parts_of}
-use Rattle.reading.specs.Code.{Reading, says_of, any_big, cell_by, small_of, declared_by, with_name, says_by, parts_by, read_parts, form_by, form_numbers}
+use Rattle.reading.specs.Code.{Reading, says_of, any_big, cell_shaped, small_of, declared_by, with_name, says_by, parts_by, read_parts, form_by, form_numbers}
 use Rattle.text.specs.declared.tokens.Tokens.{Tokens}
 use Rattle.forms.specs.declared.Match.{Match}
 use Rattle.program.specs.declared.Cell.{Cell}
@@ -56,7 +56,7 @@ module _ (form : ℕ) (p : Parts) where
   unfolding read_parts parts_by
   read_big e = rw e
 
-  pub read_acts : {o : ℕ} {h : Shape} {c : Cell} → any_big p ≡ false → says_of form ≡ F.Acts o h → c ≡ cell_by o h p → Ok (S.Acts c) ≡ read_parts form p
+  pub read_acts : {o : ℕ} {h : Shape} {c : Cell} → any_big p ≡ false → says_of form ≡ F.Acts o h → c ≡ cell_shaped o h p → Ok (S.Acts c) ≡ read_parts form p
   unfolding read_parts parts_by says_by
   read_acts e f g = rw (e, f, g)
 

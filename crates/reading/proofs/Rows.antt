@@ -21,7 +21,7 @@ use Rattle.text.specs.Forms as Form
 use Rattle.text.specs.Forms.{Line, Label, Declared, Acts, Parts, no_parts, forms, naming, starting, Is, New, Target, Written, Left, Right, Start, Operating, Comparing}
 use Rattle.text.specs.Faults.{too_big, big_value, big_in, declares}
 use Rattle.forms.specs.Code.{slot_table, slots_of}
-use Rattle.reading.specs.Code.{form_numbers, small_of, operand_of, cell_by, selector_by, left_by, right_by, target_by, say_table, says_of, with_name, declared_by, says_by, any_big, parts_by, read_parts, Reading, said_by}
+use Rattle.reading.specs.Code.{form_numbers, small_of, operand_of, cell_shaped, selector_by, left_by, right_by, target_by, say_table, says_of, with_name, declared_by, says_by, any_big, parts_by, read_parts, Reading, said_by}
 use Rattle.reading.specs.declared.Said.{Said}
 use Rattle.reading.specs.declared.Said.TheVariants as S
 use Rattle.reading.specs.declared.LineFault.TheVariants as E
@@ -70,7 +70,7 @@ declared_says w z = pick (too_big z) refl
         ∙ ap (λ (y : ℤ). cond (reserved w || false) (Err E.ReservedName) (Ok (S.Declared (key w) y))) (small_same z e)
         ∙ sym (cond_no (too_big z) _ _ e)
 
-acts_says : (o : ℕ) (shape : Shape) (p : Parts) (s : Statement Name) (b : Bool) → any_big p ≡ b → any_of big_value (operands s) ≡ b → (b ≡ false → cell_by o shape p ≡ cell_of key key s)
+acts_says : (o : ℕ) (shape : Shape) (p : Parts) (s : Statement Name) (b : Bool) → any_big p ≡ b → any_of big_value (operands s) ≡ b → (b ≡ false → cell_shaped o shape p ≡ cell_of key key s)
     → parts_by (F.Acts o shape) p ≡ line_reading (Acts s)
 unfolding parts_by says_by line_reading big_in declares any_of said_by
 acts_says o shape p s true e f g = rw (e, f)
@@ -89,7 +89,7 @@ two_none true y e = absurd (true≢false e)
 two_none false y e = (refl, (neither y false e).0)
 
 module _ (o w : ℕ) (p : Parts) (x : Said.Value Name) (s : Statement Name) (e : any_big p ≡ ((big_value x || false) || false)) (f : operands s ≡ x ∷ [])
-    (g : cell_by o H.One p ≡ cell o w 0 (operand_of x) O.Nothing 0) (h : cell_of key key s ≡ cell o w 0 (Cells.operand_of key key x) O.Nothing 0) where
+    (g : cell_shaped o H.One p ≡ cell o w 0 (operand_of x) O.Nothing 0) (h : cell_of key key s ≡ cell o w 0 (Cells.operand_of key key x) O.Nothing 0) where
   one_says : parts_by (F.Acts o H.One) p ≡ line_reading (Acts s)
   unfolding any_of
   one_says =
@@ -97,7 +97,7 @@ module _ (o w : ℕ) (p : Parts) (x : Said.Value Name) (s : Statement Name) (e :
       (λ b. g ∙ ap (λ (z : Operand). cell o w 0 z O.Nothing 0) (small_operand x (neither (big_value x) false b).0) ∙ sym h)
 
 module _ (o w c k : ℕ) (p : Parts) (x y : Said.Value Name) (s : Statement Name) (e : any_big p ≡ ((big_value x || big_value y) || false)) (f : operands s ≡ x ∷ y ∷ [])
-    (g : cell_by o H.Two p ≡ cell o w c (operand_of x) (operand_of y) k) (h : cell_of key key s ≡ cell o w c (Cells.operand_of key key x) (Cells.operand_of key key y) k) where
+    (g : cell_shaped o H.Two p ≡ cell o w c (operand_of x) (operand_of y) k) (h : cell_of key key s ≡ cell o w c (Cells.operand_of key key x) (Cells.operand_of key key y) k) where
   two_says : parts_by (F.Acts o H.Two) p ≡ line_reading (Acts s)
   unfolding any_of
   two_says =
@@ -136,7 +136,7 @@ sound_va_start : {q : Parts} → Filled (Is (ascii "VA") ∷ New ∷ Is (ascii "
 sound_va_start (step nothing (step (declared a) (step nothing (step started done)))) = a
 
 says_set : {q : Parts} → Filled (Written ∷ Is (ascii "=") ∷ Left ∷ []) no_parts q → read_parts 3 q ≡ line_reading (Acts (Set q.written q.left))
-unfolding read_parts says_of say_table any_big big_value too_big any_of operands compared cell_by selector_by left_by right_by target_by cell_of jump_of no_target key number
+unfolding read_parts says_of say_table any_big big_value too_big any_of operands compared cell_shaped selector_by left_by right_by target_by cell_of jump_of no_target key number
 says_set (step (wrote {v} _) (step nothing (step (on_the_left {x} _) done))) = one_says 1 (key v) _ x (Set v x) refl refl refl refl
 
 sound_set : {q : Parts} → Filled (Written ∷ Is (ascii "=") ∷ Left ∷ []) no_parts q → Sound (Acts (Set q.written q.left))
@@ -144,7 +144,7 @@ unfolding targets writes operands compared
 sound_set (step (wrote b) (step nothing (step (on_the_left d) done))) = record { aims = tt; sets = (b, tt); reads = (d, tt) }
 
 says_set_with : {q : Parts} → Filled (Written ∷ Is (ascii "=") ∷ Left ∷ Operating ∷ Right ∷ []) no_parts q → read_parts 4 q ≡ line_reading (Acts (SetWith q.written q.left q.operator q.right))
-unfolding read_parts says_of say_table any_big big_value too_big any_of operands compared cell_by selector_by left_by right_by target_by cell_of jump_of no_target key number
+unfolding read_parts says_of say_table any_big big_value too_big any_of operands compared cell_shaped selector_by left_by right_by target_by cell_of jump_of no_target key number
 says_set_with (step (wrote {v} _) (step nothing (step (on_the_left {x} _) (step (operated {o}) (step (on_the_right {y} _) done))))) = two_says 2 (key v) (operator_number o) 0 _ x y (SetWith v x o y) refl refl refl refl
 
 sound_set_with : {q : Parts} → Filled (Written ∷ Is (ascii "=") ∷ Left ∷ Operating ∷ Right ∷ []) no_parts q → Sound (Acts (SetWith q.written q.left q.operator q.right))
@@ -152,7 +152,7 @@ unfolding targets writes operands compared
 sound_set_with (step (wrote b) (step nothing (step (on_the_left d) (step operated (step (on_the_right e) done))))) = record { aims = tt; sets = (b, tt); reads = (d, (e, tt)) }
 
 says_ic : {q : Parts} → Filled (Is (ascii "IC") ∷ Written ∷ []) no_parts q → read_parts 5 q ≡ line_reading (Acts (IC q.written))
-unfolding read_parts says_of say_table any_big big_value too_big any_of operands compared cell_by selector_by left_by right_by target_by cell_of jump_of no_target key number
+unfolding read_parts says_of say_table any_big big_value too_big any_of operands compared cell_shaped selector_by left_by right_by target_by cell_of jump_of no_target key number
 says_ic (step nothing (step (wrote {v} _) done)) = acts_says 3 H.NoOperand _ (IC v) false refl refl (λ b. refl)
 
 sound_ic : {q : Parts} → Filled (Is (ascii "IC") ∷ Written ∷ []) no_parts q → Sound (Acts (IC q.written))
@@ -160,7 +160,7 @@ unfolding targets writes operands compared
 sound_ic (step nothing (step (wrote b) done)) = record { aims = tt; sets = (b, tt); reads = tt }
 
 says_dc : {q : Parts} → Filled (Is (ascii "DC") ∷ Written ∷ []) no_parts q → read_parts 6 q ≡ line_reading (Acts (DC q.written))
-unfolding read_parts says_of say_table any_big big_value too_big any_of operands compared cell_by selector_by left_by right_by target_by cell_of jump_of no_target key number
+unfolding read_parts says_of say_table any_big big_value too_big any_of operands compared cell_shaped selector_by left_by right_by target_by cell_of jump_of no_target key number
 says_dc (step nothing (step (wrote {v} _) done)) = acts_says 4 H.NoOperand _ (DC v) false refl refl (λ b. refl)
 
 sound_dc : {q : Parts} → Filled (Is (ascii "DC") ∷ Written ∷ []) no_parts q → Sound (Acts (DC q.written))
@@ -168,7 +168,7 @@ unfolding targets writes operands compared
 sound_dc (step nothing (step (wrote b) done)) = record { aims = tt; sets = (b, tt); reads = tt }
 
 says_br : {q : Parts} → Filled (Is (ascii "BR") ∷ Target ∷ []) no_parts q → read_parts 7 q ≡ line_reading (Acts (BR q.name Always))
-unfolding read_parts says_of say_table any_big big_value too_big any_of operands compared cell_by selector_by left_by right_by target_by cell_of jump_of no_target key number
+unfolding read_parts says_of say_table any_big big_value too_big any_of operands compared cell_shaped selector_by left_by right_by target_by cell_of jump_of no_target key number
 says_br (step nothing (step (aimed {w} _) done)) = acts_says 5 H.NoOperand _ (BR w Always) false refl refl (λ b. refl)
 
 sound_br : {q : Parts} → Filled (Is (ascii "BR") ∷ Target ∷ []) no_parts q → Sound (Acts (BR q.name Always))
@@ -176,7 +176,7 @@ unfolding targets writes operands compared
 sound_br (step nothing (step (aimed a) done)) = record { aims = (a, tt); sets = tt; reads = tt }
 
 says_br_if : {q : Parts} → Filled (Is (ascii "BR") ∷ Target ∷ Is (ascii ",") ∷ Left ∷ Comparing ∷ Right ∷ []) no_parts q → read_parts 8 q ≡ line_reading (Acts (BR q.name (Compare q.left q.comparison q.right)))
-unfolding read_parts says_of say_table any_big big_value too_big any_of operands compared cell_by selector_by left_by right_by target_by cell_of jump_of no_target key number
+unfolding read_parts says_of say_table any_big big_value too_big any_of operands compared cell_shaped selector_by left_by right_by target_by cell_of jump_of no_target key number
 says_br_if (step nothing (step (aimed {w} _) (step nothing (step (on_the_left {x} _) (step (compares {c}) (step (on_the_right {y} _) done)))))) = two_says 5 0 (comparison_number c) (key w) _ x y (BR w (Compare x c y)) refl refl refl refl
 
 sound_br_if : {q : Parts} → Filled (Is (ascii "BR") ∷ Target ∷ Is (ascii ",") ∷ Left ∷ Comparing ∷ Right ∷ []) no_parts q → Sound (Acts (BR q.name (Compare q.left q.comparison q.right)))
@@ -184,7 +184,7 @@ unfolding targets writes operands compared
 sound_br_if (step nothing (step (aimed a) (step nothing (step (on_the_left d) (step compares (step (on_the_right e) done)))))) = record { aims = (a, tt); sets = tt; reads = (d, (e, tt)) }
 
 says_cl : {q : Parts} → Filled (Is (ascii "CL") ∷ Target ∷ []) no_parts q → read_parts 9 q ≡ line_reading (Acts (CL q.name Always))
-unfolding read_parts says_of say_table any_big big_value too_big any_of operands compared cell_by selector_by left_by right_by target_by cell_of jump_of no_target key number
+unfolding read_parts says_of say_table any_big big_value too_big any_of operands compared cell_shaped selector_by left_by right_by target_by cell_of jump_of no_target key number
 says_cl (step nothing (step (aimed {w} _) done)) = acts_says 6 H.NoOperand _ (CL w Always) false refl refl (λ b. refl)
 
 sound_cl : {q : Parts} → Filled (Is (ascii "CL") ∷ Target ∷ []) no_parts q → Sound (Acts (CL q.name Always))
@@ -192,7 +192,7 @@ unfolding targets writes operands compared
 sound_cl (step nothing (step (aimed a) done)) = record { aims = (a, tt); sets = tt; reads = tt }
 
 says_cl_if : {q : Parts} → Filled (Is (ascii "CL") ∷ Target ∷ Is (ascii ",") ∷ Left ∷ Comparing ∷ Right ∷ []) no_parts q → read_parts 10 q ≡ line_reading (Acts (CL q.name (Compare q.left q.comparison q.right)))
-unfolding read_parts says_of say_table any_big big_value too_big any_of operands compared cell_by selector_by left_by right_by target_by cell_of jump_of no_target key number
+unfolding read_parts says_of say_table any_big big_value too_big any_of operands compared cell_shaped selector_by left_by right_by target_by cell_of jump_of no_target key number
 says_cl_if (step nothing (step (aimed {w} _) (step nothing (step (on_the_left {x} _) (step (compares {c}) (step (on_the_right {y} _) done)))))) = two_says 6 0 (comparison_number c) (key w) _ x y (CL w (Compare x c y)) refl refl refl refl
 
 sound_cl_if : {q : Parts} → Filled (Is (ascii "CL") ∷ Target ∷ Is (ascii ",") ∷ Left ∷ Comparing ∷ Right ∷ []) no_parts q → Sound (Acts (CL q.name (Compare q.left q.comparison q.right)))
@@ -200,7 +200,7 @@ unfolding targets writes operands compared
 sound_cl_if (step nothing (step (aimed a) (step nothing (step (on_the_left d) (step compares (step (on_the_right e) done)))))) = record { aims = (a, tt); sets = tt; reads = (d, (e, tt)) }
 
 says_rt : {q : Parts} → Filled (Is (ascii "RT") ∷ []) no_parts q → read_parts 11 q ≡ line_reading (Acts RT)
-unfolding read_parts says_of say_table any_big big_value too_big any_of operands compared cell_by selector_by left_by right_by target_by cell_of jump_of no_target key number
+unfolding read_parts says_of say_table any_big big_value too_big any_of operands compared cell_shaped selector_by left_by right_by target_by cell_of jump_of no_target key number
 says_rt (step nothing done) = acts_says 7 H.NoOperand _ RT false refl refl (λ b. refl)
 
 sound_rt : {q : Parts} → Filled (Is (ascii "RT") ∷ []) no_parts q → Sound (Acts RT)
@@ -208,7 +208,7 @@ unfolding targets writes operands compared
 sound_rt (step nothing done) = record { aims = tt; sets = tt; reads = tt }
 
 says_e : {q : Parts} → Filled (Is (ascii "E") ∷ []) no_parts q → read_parts 12 q ≡ line_reading (Acts E)
-unfolding read_parts says_of say_table any_big big_value too_big any_of operands compared cell_by selector_by left_by right_by target_by cell_of jump_of no_target key number
+unfolding read_parts says_of say_table any_big big_value too_big any_of operands compared cell_shaped selector_by left_by right_by target_by cell_of jump_of no_target key number
 says_e (step nothing done) = acts_says 8 H.NoOperand _ E false refl refl (λ b. refl)
 
 sound_e : {q : Parts} → Filled (Is (ascii "E") ∷ []) no_parts q → Sound (Acts E)
@@ -216,7 +216,7 @@ unfolding targets writes operands compared
 sound_e (step nothing done) = record { aims = tt; sets = tt; reads = tt }
 
 says_h : {q : Parts} → Filled (Is (ascii "H") ∷ []) no_parts q → read_parts 13 q ≡ line_reading (Acts H)
-unfolding read_parts says_of say_table any_big big_value too_big any_of operands compared cell_by selector_by left_by right_by target_by cell_of jump_of no_target key number
+unfolding read_parts says_of say_table any_big big_value too_big any_of operands compared cell_shaped selector_by left_by right_by target_by cell_of jump_of no_target key number
 says_h (step nothing done) = acts_says 9 H.NoOperand _ H false refl refl (λ b. refl)
 
 sound_h : {q : Parts} → Filled (Is (ascii "H") ∷ []) no_parts q → Sound (Acts H)
@@ -224,7 +224,7 @@ unfolding targets writes operands compared
 sound_h (step nothing done) = record { aims = tt; sets = tt; reads = tt }
 
 says_hold : {q : Parts} → Filled (Is (ascii "H") ∷ Left ∷ []) no_parts q → read_parts 14 q ≡ line_reading (Acts (Hold q.left))
-unfolding read_parts says_of say_table any_big big_value too_big any_of operands compared cell_by selector_by left_by right_by target_by cell_of jump_of no_target key number
+unfolding read_parts says_of say_table any_big big_value too_big any_of operands compared cell_shaped selector_by left_by right_by target_by cell_of jump_of no_target key number
 says_hold (step nothing (step (on_the_left {x} _) done)) = one_says 9 0 _ x (Hold x) refl refl refl refl
 
 sound_hold : {q : Parts} → Filled (Is (ascii "H") ∷ Left ∷ []) no_parts q → Sound (Acts (Hold q.left))
@@ -232,7 +232,7 @@ unfolding targets writes operands compared
 sound_hold (step nothing (step (on_the_left d) done)) = record { aims = tt; sets = tt; reads = (d, tt) }
 
 says_oe : {q : Parts} → Filled (Is (ascii "OE") ∷ Target ∷ []) no_parts q → read_parts 15 q ≡ line_reading (Acts (OE q.name))
-unfolding read_parts says_of say_table any_big big_value too_big any_of operands compared cell_by selector_by left_by right_by target_by cell_of jump_of no_target key number
+unfolding read_parts says_of say_table any_big big_value too_big any_of operands compared cell_shaped selector_by left_by right_by target_by cell_of jump_of no_target key number
 says_oe (step nothing (step (aimed {w} _) done)) = acts_says 10 H.NoOperand _ (OE w) false refl refl (λ b. refl)
 
 sound_oe : {q : Parts} → Filled (Is (ascii "OE") ∷ Target ∷ []) no_parts q → Sound (Acts (OE q.name))
@@ -240,7 +240,7 @@ unfolding targets writes operands compared
 sound_oe (step nothing (step (aimed a) done)) = record { aims = (a, tt); sets = tt; reads = tt }
 
 says_disarm : {q : Parts} → Filled (Is (ascii "OE") ∷ Is (ascii "0") ∷ []) no_parts q → read_parts 16 q ≡ line_reading (Acts Disarm)
-unfolding read_parts says_of say_table any_big big_value too_big any_of operands compared cell_by selector_by left_by right_by target_by cell_of jump_of no_target key number
+unfolding read_parts says_of say_table any_big big_value too_big any_of operands compared cell_shaped selector_by left_by right_by target_by cell_of jump_of no_target key number
 says_disarm (step nothing (step nothing done)) = acts_says 10 H.NoTarget _ Disarm false refl refl (λ b. refl)
 
 sound_disarm : {q : Parts} → Filled (Is (ascii "OE") ∷ Is (ascii "0") ∷ []) no_parts q → Sound (Acts Disarm)
@@ -248,7 +248,7 @@ unfolding targets writes operands compared
 sound_disarm (step nothing (step nothing done)) = record { aims = tt; sets = tt; reads = tt }
 
 says_ma : {q : Parts} → Filled (Is (ascii "MA") ∷ Left ∷ []) no_parts q → read_parts 17 q ≡ line_reading (Acts (MA q.left))
-unfolding read_parts says_of say_table any_big big_value too_big any_of operands compared cell_by selector_by left_by right_by target_by cell_of jump_of no_target key number
+unfolding read_parts says_of say_table any_big big_value too_big any_of operands compared cell_shaped selector_by left_by right_by target_by cell_of jump_of no_target key number
 says_ma (step nothing (step (on_the_left {x} _) done)) = one_says 11 0 _ x (MA x) refl refl refl refl
 
 sound_ma : {q : Parts} → Filled (Is (ascii "MA") ∷ Left ∷ []) no_parts q → Sound (Acts (MA q.left))
@@ -256,7 +256,7 @@ unfolding targets writes operands compared
 sound_ma (step nothing (step (on_the_left d) done)) = record { aims = tt; sets = tt; reads = (d, tt) }
 
 says_mr : {q : Parts} → Filled (Is (ascii "MR") ∷ Left ∷ []) no_parts q → read_parts 18 q ≡ line_reading (Acts (MR q.left))
-unfolding read_parts says_of say_table any_big big_value too_big any_of operands compared cell_by selector_by left_by right_by target_by cell_of jump_of no_target key number
+unfolding read_parts says_of say_table any_big big_value too_big any_of operands compared cell_shaped selector_by left_by right_by target_by cell_of jump_of no_target key number
 says_mr (step nothing (step (on_the_left {x} _) done)) = one_says 12 0 _ x (MR x) refl refl refl refl
 
 sound_mr : {q : Parts} → Filled (Is (ascii "MR") ∷ Left ∷ []) no_parts q → Sound (Acts (MR q.left))
@@ -264,7 +264,7 @@ unfolding targets writes operands compared
 sound_mr (step nothing (step (on_the_left d) done)) = record { aims = tt; sets = tt; reads = (d, tt) }
 
 says_sl : {q : Parts} → Filled (Is (ascii "SL") ∷ Left ∷ []) no_parts q → read_parts 19 q ≡ line_reading (Acts (SL q.left))
-unfolding read_parts says_of say_table any_big big_value too_big any_of operands compared cell_by selector_by left_by right_by target_by cell_of jump_of no_target key number
+unfolding read_parts says_of say_table any_big big_value too_big any_of operands compared cell_shaped selector_by left_by right_by target_by cell_of jump_of no_target key number
 says_sl (step nothing (step (on_the_left {x} _) done)) = one_says 13 0 _ x (SL x) refl refl refl refl
 
 sound_sl : {q : Parts} → Filled (Is (ascii "SL") ∷ Left ∷ []) no_parts q → Sound (Acts (SL q.left))
@@ -272,7 +272,7 @@ unfolding targets writes operands compared
 sound_sl (step nothing (step (on_the_left d) done)) = record { aims = tt; sets = tt; reads = (d, tt) }
 
 says_pr : {q : Parts} → Filled (Is (ascii "PR") ∷ Left ∷ []) no_parts q → read_parts 20 q ≡ line_reading (Acts (PR q.left))
-unfolding read_parts says_of say_table any_big big_value too_big any_of operands compared cell_by selector_by left_by right_by target_by cell_of jump_of no_target key number
+unfolding read_parts says_of say_table any_big big_value too_big any_of operands compared cell_shaped selector_by left_by right_by target_by cell_of jump_of no_target key number
 says_pr (step nothing (step (on_the_left {x} _) done)) = one_says 14 0 _ x (PR x) refl refl refl refl
 
 sound_pr : {q : Parts} → Filled (Is (ascii "PR") ∷ Left ∷ []) no_parts q → Sound (Acts (PR q.left))

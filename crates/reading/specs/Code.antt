@@ -88,9 +88,16 @@ selector_by operation H.One p = 0
 selector_by operation H.Two p = cond (eqb operation 2) (operator_number p.operator) (comparison_number p.comparison)
 selector_by operation H.NoTarget p = 0
 
-unfoldable pub cell_by : ℕ → Shape → Parts → Cell
-cell_by operation shape p =
+unfoldable pub cell_shaped : ℕ → Shape → Parts → Cell
+cell_shaped operation shape p =
     cell operation (key p.written) (selector_by operation shape p) (left_by shape p.left) (right_by shape p.right) (target_by shape (key p.name))
+
+-- The same by the shape's number: 1 one operand, 2 two, 3 no target, any other no operand.
+unfoldable pub shape_of : ℕ → Shape
+shape_of n = cond (eqb n 1) H.One (cond (eqb n 2) H.Two (cond (eqb n 3) H.NoTarget H.NoOperand))
+
+unfoldable pub cell_by : ℕ → ℕ → Parts → Cell
+cell_by operation shape p = cell_shaped operation (shape_of shape) p
 
 -- What reading a line gives: what the line says, or a fault.
 abbrev pub Reading : Type 0
@@ -107,7 +114,7 @@ with_name says (Err e) = Err e
 unfoldable pub says_by : Says → Parts → Reading
 says_by F.Label p = with_name S.Label (declared_by p)
 says_by F.Declared p = with_name (λ k. S.Declared k (small_of p.start)) (declared_by p)
-says_by (F.Acts operation shape) p = Ok (S.Acts (cell_by operation shape p))
+says_by (F.Acts operation shape) p = Ok (S.Acts (cell_shaped operation shape p))
 
 unfoldable pub any_big : Parts → Bool
 any_big p = (big_value p.left || big_value p.right) || too_big p.start

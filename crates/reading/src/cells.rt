@@ -2,7 +2,7 @@
 ghost use Rattle.std.specs.Prelude.{◌≡◌};
 ghost use Rattle.text.specs.Faults.{big_value};
 ghost use Rattle.forms.specs.Code.{value_of, start_of, meaning, parts_of};
-ghost use Rattle.reading.specs.Code.{small_of, operand_of, left_by, right_by, target_by, selector_by, cell_by};
+ghost use Rattle.reading.specs.Code.{small_of, operand_of, left_by, right_by, target_by, selector_by, shape_of, cell_by};
 
 use forms::{Match, Value};
 use program::{Cell, Operand, Variable};
@@ -10,10 +10,24 @@ use program::{Cell, Operand, Variable};
 // The shape of a statement: no operand, one, two, or no target.
 #[derive(Clone, Copy)]
 pub enum Shape {
-    NoOperand,
-    One,
-    Two,
-    NoTarget,
+    NoOperand = 0,
+    One = 1,
+    Two = 2,
+    NoTarget = 3,
+}
+
+impl Shape {
+    // The shape with this number; with any other it is that of no operand.
+    fn of(number: u8) -> Shape
+        ensures { result ≡ shape_of number }
+    {
+        match number {
+            1 => Shape::One,
+            2 => Shape::Two,
+            3 => Shape::NoTarget,
+            _ => Shape::NoOperand,
+        }
+    }
 }
 
 // A literal, 0 where it is too big for one.
@@ -98,9 +112,11 @@ fn selector(parts: Match, operation: u8, shape: Shape) -> u8
     }
 }
 
-pub fn cell(parts: Match, operation: u8, shape: Shape) -> Cell
+// The cell of a statement with this operation and the shape with this number.
+pub fn cell(parts: Match, operation: u8, shape: u8) -> Cell
     ensures { result ≡ cell_by operation shape (parts_of parts) }
 {
+    let shape = Shape::of(shape);
     let x = parts.left;
     let y = parts.right;
     Cell {

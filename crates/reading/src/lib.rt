@@ -102,7 +102,7 @@ fn read(parts: Match, form: usize) -> Result<Said, LineFault>
     match says {
         Says::Label => Ok(Said::Label(declared(parts)?)),
         Says::Declared => Ok(Said::Declared(declared(parts)?, cells::start_value(parts.start))),
-        Says::Acts(operation, shape) => Ok(Said::Acts(cells::cell(parts, operation, shape))),
+        Says::Acts(operation, shape) => Ok(Said::Acts(cells::cell(parts, operation, shape as u8))),
     }
 }
 
