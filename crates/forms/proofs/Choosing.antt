@@ -15,8 +15,9 @@ use Rattle.program.specs.Names.{letter, digit, word_character, mnemonics, variab
 use Rattle.program.specs.Code.{name_of}
 use Rattle.text.specs.Forms.{variable_name}
 use Rattle.text.specs.Code.{token_at}
-use Rattle.std.specs.Prelude.{Option, Some, None, IfSome}
-use Rattle.std.proofs.lemmas.Option.{none-some, cond_some}
+use Rattle.std.specs.Prelude.{Result, Ok, Err, IfOk, is_ok}
+use Rattle.std.specs.Result.{result_unwrap_or}
+use Rattle.std.proofs.lemmas.Result.{IfOk-at_ok}
 use Rattle.forms.specs.Code.{no_match, onward, with_name, with_written, word_by, slot_by, is_end, fill_by, slot_table, slots_of, first_form, longer_by, form_for}
 use Rattle.text.specs.declared.tokens.Token.{Token}
 use Rattle.text.specs.declared.tokens.Tokens.{Tokens}
@@ -67,38 +68,42 @@ most : List Slot → ℕ
 most [] = 0
 most (s ∷ ss) = cond (is_end s) 0 (width s + most ss)
 
+not_filled : (m n : Match) → Err m ≡ Ok n → ⊥
+not_filled m n e = true≢false (ap (λ (o : Result Match Match). is_ok o) (sym e))
+
 -- What the first of some slots took, and that the others go on from there.
 record Stepped (at : List Token) (m : Match) (s : Slot) (ss : List Slot) (r : Match) : Type 0 where
   n : Match
-  took : slot_by m s (token_at at m.place) (token_at at (m.place + 1)) ≡ Some n
-  more : fill_by ss at n ≡ Some r
+  took : slot_by m s (token_at at m.place) (token_at at (m.place + 1)) ≡ Ok n
+  more : fill_by ss at n ≡ Ok r
 
-stepped : (at : List Token) (s : Slot) (ss : List Slot) (m r : Match) → is_end s ≡ false → fill_by (s ∷ ss) at m ≡ Some r → Stepped at m s ss r
+stepped : (at : List Token) (s : Slot) (ss : List Slot) (m r : Match) → is_end s ≡ false → fill_by (s ∷ ss) at m ≡ Ok r → Stepped at m s ss r
 stepped at s ss m r z e = pick (slot_by m s (token_at at m.place) (token_at at (m.place + 1))) refl (sym (fill_step at m s ss z) ∙ e)
   where
-    pick : (o : Option Match) → slot_by m s (token_at at m.place) (token_at at (m.place + 1)) ≡ o → then at m ss o ≡ Some r → Stepped at m s ss r
-    pick None f g = absurd (none-some r g)
-    pick (Some n) f g = record { n = n; took = f; more = g }
+    pick : (o : Result Match Match) → slot_by m s (token_at at m.place) (token_at at (m.place + 1)) ≡ o → then at m ss o ≡ Ok r → Stepped at m s ss r
+    pick (Err n) f g = absurd (not_filled n r g)
+    pick (Ok n) f g = record { n = n; took = f; more = g }
 
-word_fits : (b : Bool) (m n : Match) → word_by b m ≡ Some n → (b ≡ true) × (onward m 1 ≡ n)
+word_fits : (b : Bool) (m n : Match) → word_by b m ≡ Ok n → (b ≡ true) × (onward m 1 ≡ n)
 unfolding word_by
-word_fits b m n e = cond_some b (onward m 1) n e
+word_fits true m n e = (refl, ap (λ (o : Result Match Match). result_unwrap_or o m) e)
+word_fits false m n e = absurd (not_filled (onward m 1) n e)
 
 module _ (at : List Token) where
-  fill_moves : (ss : List Slot) (m : Match) → IfSome (fill_by ss at m) (Moves m (fewest ss) (most ss))
+  fill_moves : (ss : List Slot) (m : Match) → IfOk (fill_by ss at m) (Moves m (fewest ss) (most ss))
   unfolding fill_by fewest most least
   fill_moves [] m = (omega arith, omega arith)
   fill_moves (s ∷ ss) m = pick (is_end s) (slot_by m s (token_at at m.place) (token_at at (m.place + 1))) (slot_moves m s (token_at at m.place) (token_at at (m.place + 1))) (λ n. fill_moves ss n)
     where
-      wider : (n : Match) (o : Option Match) → Moves m 1 (width s) n → IfSome o (Moves n (fewest ss) (most ss)) → IfSome o (Moves m (1 + fewest ss) (width s + most ss))
-      wider n None h k = tt
-      wider n (Some r) h k = (omega (arith, h.0, k.0), omega (arith, h.1, k.1))
+      wider : (n : Match) (o : Result Match Match) → Moves m 1 (width s) n → IfOk o (Moves n (fewest ss) (most ss)) → IfOk o (Moves m (1 + fewest ss) (width s + most ss))
+      wider n (Err r) h k = tt
+      wider n (Ok r) h k = (omega (arith, h.0, k.0), omega (arith, h.1, k.1))
 
-      pick : (z : Bool) (o : Option Match) → IfSome o (Moves m (cond z 0 1) (width s)) → ((n : Match) → IfSome (fill_by ss at n) (Moves n (fewest ss) (most ss)))
-          → IfSome (cond z (Some m) (then at m ss o)) (Moves m (cond z 0 (1 + fewest ss)) (cond z 0 (width s + most ss)))
+      pick : (z : Bool) (o : Result Match Match) → IfOk o (Moves m (cond z 0 1) (width s)) → ((n : Match) → IfOk (fill_by ss at n) (Moves n (fewest ss) (most ss)))
+          → IfOk (cond z (Ok m) (then at m ss o)) (Moves m (cond z 0 (1 + fewest ss)) (cond z 0 (width s + most ss)))
       pick true o h ih = (omega arith, omega arith)
-      pick false None h ih = tt
-      pick false (Some n) h ih = wider n (fill_by ss at n) h (ih n)
+      pick false (Err n) h ih = tt
+      pick false (Ok n) h ih = wider n (fill_by ss at n) h (ih n)
 
 module _ (ts : Tokens) where
   abbrev first : ℕ
@@ -109,11 +114,11 @@ module _ (ts : Tokens) where
 
   -- The tokens fill these slots, and none is left.
   abbrev pub Fits : List Slot → Match → Type 0
-  Fits ss m = (fill_by ss ts.at no_match ≡ Some m) × (m.place ≡ ts.count)
+  Fits ss m = (fill_by ss ts.at no_match ≡ Ok m) × (m.place ≡ ts.count)
 
   counted : (ss : List Slot) (m : Match) → Fits ss m → (fewest ss ≤ ts.count) × (ts.count ≤ most ss)
   counted ss m h =
-      let b : IfSome (Some m) (Moves no_match (fewest ss) (most ss)) = subst (λ o. IfSome o (Moves no_match (fewest ss) (most ss))) h.0 (fill_moves ts.at ss no_match) in
+      let b = IfOk-at_ok (Moves no_match (fewest ss) (most ss)) h.0 (fill_moves ts.at ss no_match) in
       (omega (arith, h.1, b.0), omega (arith, h.1, b.1))
 
   -- The first slot takes the very characters of a key; or a variable.

@@ -12,7 +12,8 @@ use lib.IntN.{ℤ, pos, neg_ℤ}
 use lib.ListN.{length, drop, length-drop}
 use lib.Seq.{drop-drop}
 use Rattle.std.specs.Prelude as Std
-use Rattle.std.specs.Prelude.{Some, None, IfSome}
+use Rattle.std.specs.Prelude.{Some, None, IfSome, Result, Ok, Err, IfOk}
+use Rattle.std.proofs.lemmas.Result.{IfOk-at_ok}
 use Rattle.numbers.specs.Bytes.{ascii}
 use Rattle.numbers.specs.Tests.{eq_list}
 use Rattle.numbers.proofs.Truth.{is_true, eqb_turn, same_test, of_both, cond_yes, cond_no}
@@ -288,8 +289,8 @@ fixed_law n h (t ∷ ts) p g =
     ∙ ap (λ (b : Bool). whether b p ts) (spelled_so t.chars n g.0.0 g.0.1 h ∙ eqb_turn (short_key t.chars) n)
 
 -- What a match took, as the paper's slots hand it on: the parts, and the tokens behind them.
-abbrev after : List Paper.Token → Std.Option Match → Option (Form.Taken Parts)
-after whole o = elim o [ Some m ↦ took (parts_of m) (drop m.place whole) | None ↦ none ]
+abbrev after : List Paper.Token → Result Match Match → Option (Form.Taken Parts)
+after whole o = elim o [ Ok m ↦ took (parts_of m) (drop m.place whole) | Err m ↦ none ]
 
 after_word : (whole : List Paper.Token) (m : Match) (b : Bool) → whether b (parts_of m) (drop 1 (drop m.place whole)) ≡ after whole (word_by b m)
 unfolding word_by
@@ -368,17 +369,17 @@ module _ (whole : List Paper.Token) (m : Match) (g : Goods (drop m.place whole))
 abbrev Within : Match → ℕ → Match → Type 0
 Within m n x = x.place ≤ m.place + max 1 n
 
-word_used : (m : Match) (b : Bool) (n : ℕ) → IfSome (word_by b m) (Within m n)
+word_used : (m : Match) (b : Bool) (n : ℕ) → IfOk (word_by b m) (Within m n)
 unfolding word_by
 word_used m true n = omega arith
 word_used m false n = tt
 
 value_used : (m : Match) (with : Match → Value → Match) (n : ℕ) → ((v : Value) → (with m v).place ≡ m.place) → (o : Std.Option Taken) → IfSome o (Inside n)
-    → IfSome (value_by with m o) (Within m n)
+    → IfOk (value_by with m o) (Within m n)
 value_used m with n e None h = tt
 value_used m with n e (Some x) h = let p = e x.value in omega (arith, h)
 
-slot_used : {n : Slot} {s : Form.Slot} (m : Match) (ts : List Paper.Token) → Kind n s → IfSome (slot_by m n (front ts) (front (drop 1 ts))) (Within m (length ts))
+slot_used : {n : Slot} {s : Form.Slot} (m : Match) (ts : List Paper.Token) → Kind n s → IfOk (slot_by m n (front ts) (front (drop 1 ts))) (Within m (length ts))
 unfolding slot_by
 slot_used m ts new = word_used (with_name m (front ts).key) (two_characters (name_of (front ts).key)) (length ts)
 slot_used m ts target = word_used (with_name m (front ts).key) (user_name (name_of (front ts).key)) (length ts)
@@ -412,8 +413,8 @@ goods_drop (suc n) [] g = tt
 goods_drop (suc n) (t ∷ ts) g = goods_drop n ts g.1
 
 -- A form is filled where each slot took something and no token is left.
-abbrev pub finish : List Paper.Token → Std.Option Match → Option Parts
-finish whole o = elim o [ Some m ↦ cond (eqb m.place (length whole)) (some (parts_of m)) none | None ↦ none ]
+abbrev pub finish : List Paper.Token → Result Match Match → Option Parts
+finish whole o = elim o [ Ok m ↦ cond (eqb m.place (length whole)) (some (parts_of m)) none | Err m ↦ none ]
 
 none_left : (ts : List Paper.Token) (p : Parts) → fill [] ts p ≡ cond (eqb (length ts) 0) (some p) none
 unfolding fill
@@ -433,7 +434,7 @@ module _ (whole : List Paper.Token) (g : Goods whole) (at : List Token) (read : 
       ap₂ (λ (t u : Token). slot_by m n t u) (read m.place)
       (read (m.place + 1) ∙ ap front (sym (drop-drop 1 m.place whole)))
 
-  all_filled : (m : Match) → m.place ≤ length whole → fill [] (drop m.place whole) (parts_of m) ≡ finish whole (Some m)
+  all_filled : (m : Match) → m.place ≤ length whole → fill [] (drop m.place whole) (parts_of m) ≡ finish whole (Ok m)
   all_filled m h =
       none_left (drop m.place whole) (parts_of m)
       ∙ ap (λ (b : Bool). cond b (some (parts_of m)) none)
@@ -447,19 +448,19 @@ module _ (whole : List Paper.Token) (g : Goods whole) (at : List Token) (read : 
   fill_law (slot {n} {s} {ns} {ss} k r) m h =
       ap (go_on ss) law ∙ pick next refl (λ x l. fill_law r x l) ∙ ap (finish whole) (sym (fill_step at m n ns (some_slot k) ∙ ap (then at m ns) (slot_next n m)))
     where
-      next : Std.Option Match
+      next : Result Match Match
       next = slot_by m n (front (drop m.place whole)) (front (drop 1 (drop m.place whole)))
 
       law : takes s (drop m.place whole) (parts_of m) ≡ after whole next
       law = slot_law whole m (goods_drop m.place whole g) k
 
-      inside : (x : Match) → next ≡ Some x → x.place ≤ length whole
+      inside : (x : Match) → next ≡ Ok x → x.place ≤ length whole
       inside x f =
           let l = some_left s (drop m.place whole) (parts_of m) (law ∙ ap (after whole) f) in
-          let u : IfSome (Some x) (Within m (length (drop m.place whole))) = subst (λ o. IfSome o (Within m (length (drop m.place whole)))) f (slot_used m (drop m.place whole) k) in
+          let u = IfOk-at_ok (Within m (length (drop m.place whole))) f (slot_used m (drop m.place whole) k) in
           omega (arith, u, length-drop m.place whole)
 
-      pick : (o : Std.Option Match) → next ≡ o → ((x : Match) → x.place ≤ length whole → fill ss (drop x.place whole) (parts_of x) ≡ finish whole (fill_by ns at x))
+      pick : (o : Result Match Match) → next ≡ o → ((x : Match) → x.place ≤ length whole → fill ss (drop x.place whole) (parts_of x) ≡ finish whole (fill_by ns at x))
           → go_on ss (after whole o) ≡ finish whole (then at m ns o)
-      pick (Some x) f ih = ih x (inside x f)
-      pick None f ih = refl
+      pick (Ok x) f ih = ih x (inside x f)
+      pick (Err x) f ih = refl

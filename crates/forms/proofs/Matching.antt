@@ -10,7 +10,8 @@ use native.Mathlib.Omega.{arith}
 use lib.Dec.{T, eqb, eqb→eq}
 use lib.ListN.{length, drop, get_or, drop_of_length-le}
 use lib.Seq.{drop-cons}
-use Rattle.std.specs.Prelude.{Option, Some, None, IfSome}
+use Rattle.std.specs.Prelude.{Option, Some, None, IfSome, Result, Ok, Err, IfOk}
+use Rattle.std.proofs.lemmas.Result.{IfOk-at_ok}
 use Rattle.numbers.specs.Tests.{all_of}
 use Rattle.program.specs.Names.{two_characters, user_name}
 use Rattle.program.specs.Code.{name_of}
@@ -110,17 +111,17 @@ width_most S.End = omega arith
 abbrev pub Moves : Match → ℕ → ℕ → Match → Type 0
 Moves m low high n = (m.place + low ≤ n.place) × (n.place ≤ m.place + high)
 
-word_moves : (b : Bool) (m : Match) → IfSome (word_by b m) (Moves m 1 1)
+word_moves : (b : Bool) (m : Match) → IfOk (word_by b m) (Moves m 1 1)
 unfolding word_by
 word_moves true m = (omega arith, omega arith)
 word_moves false m = tt
 
 value_moves : (put : Match → Value → Match) (m : Match) (o : Option Taken) → ((v : Value) → (put m v).place ≡ m.place) → IfSome o (Uses 2)
-    → IfSome (value_by put m o) (Moves m 1 2)
+    → IfOk (value_by put m o) (Moves m 1 2)
 value_moves put m None e h = tt
 value_moves put m (Some x) e h = let p = e x.value in (omega (arith, h.0), omega (arith, h.1))
 
-pub slot_moves : (m : Match) (s : Slot) (t u : Token) → IfSome (slot_by m s t u) (Moves m (least s) (width s))
+pub slot_moves : (m : Match) (s : Slot) (t u : Token) → IfOk (slot_by m s t u) (Moves m (least s) (width s))
 unfolding slot_by is_end least width
 slot_moves m (S.Is k) t u = word_moves (eqb k t.key) m
 slot_moves m S.New t u = word_moves (two_characters (name_of t.key)) (with_name m t.key)
@@ -133,26 +134,26 @@ slot_moves m S.Operator t u = word_moves (is_operator (name_of t.key)) (with_ope
 slot_moves m S.Comparison t u = word_moves (is_comparison (name_of t.key)) (with_comparison m t.key)
 slot_moves m S.End t u = (omega arith, omega arith)
 
-pub slot_place : (m : Match) (s : Slot) (t u : Token) {o : Option Match} {n : Match} → o ≡ slot_by m s t u → o ≡ Some n → n.place ≤ m.place + 2
+pub slot_place : (m : Match) (s : Slot) (t u : Token) {o : Result Match Match} {n : Match} → o ≡ slot_by m s t u → o ≡ Ok n → n.place ≤ m.place + 2
 slot_place m s t u {o} {n} p q =
-    let h : IfSome (Some n) (Moves m (least s) (width s)) = subst (λ o. IfSome o (Moves m (least s) (width s))) (sym p ∙ q) (slot_moves m s t u) in
+    let h = IfOk-at_ok (Moves m (least s) (width s)) (sym p ∙ q) (slot_moves m s t u) in
     omega (arith, h.1, width_most s)
 
 -- The slots one after the other.
 module _ (ts : List Token) (m : Match) where
-  pub fill_over : (l : List Slot) (k : ℕ) (d : Slot) → k < length l → get_or l k d ≡ S.End → Some m ≡ fill_by (drop k l) ts m
+  pub fill_over : (l : List Slot) (k : ℕ) (d : Slot) → k < length l → get_or l k d ≡ S.End → Ok m ≡ fill_by (drop k l) ts m
   unfolding fill_by is_end
   fill_over l k d h p = rw (drop-cons l k d h, p)
 
   -- What is left to fill behind a slot.
-  abbrev pub then : List Slot → Option Match → Option Match
-  then ss o = elim o [ Some n ↦ fill_by ss ts n | None ↦ None ]
+  abbrev pub then : List Slot → Result Match Match → Result Match Match
+  then ss o = elim o [ Ok n ↦ fill_by ss ts n | Err n ↦ Err n ]
 
   pub fill_step : (s : Slot) (ss : List Slot) → is_end s ≡ false → fill_by (s ∷ ss) ts m ≡ then ss (slot_by m s (token_at ts m.place) (token_at ts (m.place + 1)))
   unfolding fill_by
   fill_step s ss e = rw e
 
-  pub fill_more : (l : List Slot) (k : ℕ) (d : Slot) {o r : Option Match} → k < length l → (get_or l k d ≡ S.End → ⊥)
+  pub fill_more : (l : List Slot) (k : ℕ) (d : Slot) {o r : Result Match Match} → k < length l → (get_or l k d ≡ S.End → ⊥)
       → o ≡ slot_by m (get_or l k d) (token_at ts m.place) (token_at ts (m.place + 1)) → o ≡ r
       → then (drop (k + 1) l) r ≡ fill_by (drop k l) ts m
   fill_more l k d h n p q =
@@ -169,6 +170,6 @@ pub slots_length : (form : ℕ) → form < 21 → length (slots_of form) ≡ 6
 unfolding slots_of slot_table all_of
 slots_length form h = eqb→eq (length (slots_of form)) 6 (each_at (λ l. eqb (length l) 6) slot_table tt form h)
 
-pub fill_end : (ts : List Token) (m : Match) (l : List Slot) (k : ℕ) → length l ≤ k → fill_by (drop k l) ts m ≡ Some m
+pub fill_end : (ts : List Token) (m : Match) (l : List Slot) (k : ℕ) → length l ≤ k → fill_by (drop k l) ts m ≡ Ok m
 unfolding fill_by
 fill_end ts m l k h = rw (drop_of_length-le l h)

@@ -1,6 +1,6 @@
 -- What the code holds of the forms and of the parts that their slots take, in its own shape. No demand reaches this; proofs/ ties it to the definitions of the paper.
 -- Assumes nothing.
-use Rattle.std.specs.Prelude.{Bool, true, false, cond, ◌&&◌, ◌||◌, List, [], ◌∷◌, ℕ, ◌+◌, eqb, ltb, get_or, ℤ, pos, neg_ℤ, Option, Some, None}
+use Rattle.std.specs.Prelude.{Bool, true, false, cond, ◌&&◌, ◌||◌, List, [], ◌∷◌, ℕ, ◌+◌, eqb, ltb, get_or, ℤ, pos, neg_ℤ, Option, Some, None, Result, Ok, Err}
 use Rattle.program.specs.Names.{Name, two_characters, user_name}
 use Rattle.program.specs.Code.{name_of}
 use Rattle.program.specs.Statements.{Literal, Variable, Operator, BitXor, Comparison, AtLeast}
@@ -98,16 +98,16 @@ operator_by w = or_else BitXor (operator_meant w)
 unfoldable pub comparison_by : Name → Comparison
 comparison_by w = or_else AtLeast (comparison_meant w)
 
--- A word on, where it fits its slot.
-unfoldable pub word_by : Bool → Match → Option Match
-word_by fits m = cond fits (Some (onward m 1)) None
+-- A word on; an error where it does not fit its slot.
+unfoldable pub word_by : Bool → Match → Result Match Match
+word_by fits m = let n = onward m 1 in cond fits (Ok n) (Err n)
 
--- A value on, where one is found, put among the parts.
-abbrev pub value_by : (Match → Value → Match) → Match → Option Taken → Option Match
-value_by put m o = elim o [ Some x ↦ Some (onward (put m x.value) x.used) | None ↦ None ]
+-- A value on, put among the parts; an error, with 0 put there, where none is found.
+abbrev pub value_by : (Match → Value → Match) → Match → Option Taken → Result Match Match
+value_by put m o = elim o [ Some x ↦ Ok (onward (put m x.value) x.used) | None ↦ Err (put m zero_value) ]
 
--- What a slot takes of the next two tokens, put among the parts; none where it takes nothing.
-unfoldable pub slot_by : Match → Slot → Token → Token → Option Match
+-- What a slot takes of the next two tokens, put among the parts; an error where it takes nothing.
+unfoldable pub slot_by : Match → Slot → Token → Token → Result Match Match
 slot_by m (S.Is k) t u = word_by (eqb k t.key) m
 slot_by m S.New t u = word_by (two_characters (name_of t.key)) (with_name m t.key)
 slot_by m S.Target t u = word_by (user_name (name_of t.key)) (with_name m t.key)
@@ -117,7 +117,7 @@ slot_by m S.Right t u = value_by with_right m (operand_by t u)
 slot_by m S.Start t u = value_by with_start m (literal_by t u)
 slot_by m S.Operator t u = word_by (is_operator (name_of t.key)) (with_operator m t.key)
 slot_by m S.Comparison t u = word_by (is_comparison (name_of t.key)) (with_comparison m t.key)
-slot_by m S.End t u = Some m
+slot_by m S.End t u = Ok m
 
 -- No more slots.
 unfoldable pub is_end : Slot → Bool
@@ -132,12 +132,12 @@ is_end S.Operator = false
 is_end S.Comparison = false
 is_end S.End = true
 
--- The slots of a form one after the other, until there are no more; none where one takes nothing.
-unfoldable pub fill_by : List Slot → List Token → Match → Option Match
-fill_by [] ts m = Some m
+-- The slots of a form one after the other, until there are no more; an error where one takes nothing, with what was taken so far.
+unfoldable pub fill_by : List Slot → List Token → Match → Result Match Match
+fill_by [] ts m = Ok m
 fill_by (s ∷ ss) ts m =
-    let more : Option Match = elim (slot_by m s (token_at ts m.place) (token_at ts (m.place + 1))) [ Some n ↦ fill_by ss ts n | None ↦ None ] in
-    cond (is_end s) (Some m) more
+    let more : Result Match Match = elim (slot_by m s (token_at ts m.place) (token_at ts (m.place + 1))) [ Ok n ↦ fill_by ss ts n | Err n ↦ Err n ] in
+    cond (is_end s) (Ok m) more
 
 -- The slots of the 21 forms, six to a form.
 unfoldable pub slot_table : List (List Slot)

@@ -125,6 +125,9 @@ const FORMS: [[Slot; 6]; 21] = [
     [Is(PR), Left, End, End, End, End],
 ];
 
+// A value that no slot took.
+const NO_VALUE: Value = Value::Literal(false, 0);
+
 // The operators and the comparisons in the order of their numbers, two bytes each.
 const OPERATORS: [[u8; 2]; 7] = [
     *b"+\0", *b"-\0", *b"*\0", *b"/\0", *b"&\0", *b"|\0", *b"^\0",
@@ -254,11 +257,11 @@ impl Match {
             place: 0,
             name: 0,
             written: 0,
-            left: Value::Literal(false, 0),
+            left: NO_VALUE,
             operator: 0,
             comparison: 0,
-            right: Value::Literal(false, 0),
-            start: Value::Literal(false, 0),
+            right: NO_VALUE,
+            start: NO_VALUE,
         }
     }
 
@@ -272,19 +275,20 @@ impl Match {
         self
     }
 
-    // A word on, where it fits.
-    fn word(self, fits: bool) -> Option<Match>
+    // A word on; an error where it doesn't fit.
+    fn word(self, fits: bool) -> Result<Match, Match>
         requires { self.place < 64 }
         ensures { result ≡ word_by fits self }
     {
+        let m = self.onward(1);
         if fits {
-            return Some(self.onward(1));
+            return Ok(m);
         }
-        None
+        Err(m)
     }
 
-    // What a slot takes of the next two tokens.
-    fn slot(mut self, slot: Slot, t: Token, u: Token) -> Option<Match>
+    // What a slot takes of the next two tokens; an error where it takes nothing, with the word that doesn't fit, or with no value.
+    fn slot(mut self, slot: Slot, t: Token, u: Token) -> Result<Match, Match>
         requires { self.place < 64 }
         ensures { result ≡ slot_by self slot t u }
     {
@@ -303,19 +307,28 @@ impl Match {
                 self.word(is_variable(t.key))
             }
             Slot::Left => {
-                let taken = operand(t, u)?;
+                self.left = NO_VALUE;
+                let Some(taken) = operand(t, u) else {
+                    return Err(self);
+                };
                 self.left = taken.value;
-                Some(self.onward(taken.used))
+                Ok(self.onward(taken.used))
             }
             Slot::Right => {
-                let taken = operand(t, u)?;
+                self.right = NO_VALUE;
+                let Some(taken) = operand(t, u) else {
+                    return Err(self);
+                };
                 self.right = taken.value;
-                Some(self.onward(taken.used))
+                Ok(self.onward(taken.used))
             }
             Slot::Start => {
-                let taken = literal(t, u)?;
+                self.start = NO_VALUE;
+                let Some(taken) = literal(t, u) else {
+                    return Err(self);
+                };
                 self.start = taken.value;
-                Some(self.onward(taken.used))
+                Ok(self.onward(taken.used))
             }
             Slot::Operator => {
                 self.operator = t.key;
@@ -325,7 +338,7 @@ impl Match {
                 self.comparison = t.key;
                 self.word(is_comparison(t.key))
             }
-            Slot::End => Some(self),
+            Slot::End => Ok(self),
         }
     }
 }
@@ -385,8 +398,8 @@ pub fn form_for(first: u16, second: u16, count: usize) -> usize
     form
 }
 
-// What the slots of a form take of the tokens; none where one of them takes nothing.
-pub fn fill(form: usize, ts: Tokens) -> Option<Match>
+// What the slots of a form take of the tokens; an error where one of them takes nothing, with what was taken so far.
+pub fn fill(form: usize, ts: Tokens) -> Result<Match, Match>
     requires { form < 21 }
     ensures { result ≡ fill_by (slots_of form) ts.at no_match }
 {
@@ -394,9 +407,9 @@ pub fn fill(form: usize, ts: Tokens) -> Option<Match>
     let mut m = Match::none();
     for slot in slots(form) {
         if let Slot::End = slot {
-            return Some(m);
+            return Ok(m);
         }
         m = m.slot(slot, at[m.place], at[m.place + 1])?;
     }
-    Some(m)
+    Ok(m)
 }

@@ -4,6 +4,7 @@ use native.Mathlib.Omega.{arith}
 use Prim.Native.Nat.{◌≤◌, ◌<◌}
 use lib.ListN.{length}
 use mathlib.Core.Path.{sym, ◌∙◌}
+use Rattle.std.proofs.lemmas.Result.{err_from_is_err_and}
 use Rattle.text.specs.Code.{token_at}
 use Rattle.forms.proofs.Matching.{fill_more, fill_over, fill_end, slot_place, slots_length}
 use Rattle.forms.proofs.fill.Goals as goal
@@ -17,9 +18,9 @@ pub returns-in_err-m : goal.returns-in_err-m
 unfolding token_at
 returns-in_err-m c =
     let l : c.loop-slot.slot-index < length c.slots-slot-items.result = rw c.slots-slot-items.ensures (omega (arith, slots_length c.args.form c.requires)) in
-    c.from_residual.ensures
-    ∙ fill_more c.args.ts.at c.loop-slot.m c.slots-slot-items.result c.loop-slot.slot-index _ l c.in_default.not-End c.slot.ensures c.in_err-m.was
-    ∙ c.loop-slot.invariant.1
+    let p = err_from_is_err_and c.from_residual.result c.from_residual.ensures.1 in
+    rw (p.1, p.2)
+    (fill_more c.args.ts.at c.loop-slot.m c.slots-slot-items.result c.loop-slot.slot-index _ l c.in_default.not-End c.slot.ensures c.in_err-m.was ∙ c.loop-slot.invariant.1)
 
 pub loop-slot-preserved : goal.loop-slot-preserved
 unfolding token_at

@@ -4,38 +4,38 @@ use Rattle.forms.specs.Code.{slot_by}
 use Rattle.forms.proofs.Matching.{literal_used, operand_used, found_small}
 use Rattle.forms.proofs.Match.slot.Goals as goal
 
-pub returns-in_err-taken-in-Left : goal.returns-in_err-taken-in-Left
+pub returns-in_default : goal.returns-in_default
 unfolding slot_by
-returns-in_err-taken-in-Left c = rw (c.in-Left.is, c.from_residual.ensures, ← c.operand.ensures, c.in_err-taken-in-Left.was)
+returns-in_default c = rw (c.in-Left.is, ← c.operand.ensures, c.in_default.is)
 
 pub onward-requires : goal.onward-requires
-onward-requires c = (c.requires, found_small (operand_used c.args.t c.args.u) c.operand.ensures c.in_ok-taken-in-Left.was)
+onward-requires c = (c.requires, found_small (operand_used c.args.t c.args.u) c.operand.ensures c.in-Some.is)
 
-pub returns-in_ok-taken-in-Left : goal.returns-in_ok-taken-in-Left
+pub returns-in-Some : goal.returns-in-Some
 unfolding slot_by
-returns-in_ok-taken-in-Left c = rw (c.in-Left.is, c.onward.ensures, ← c.operand.ensures, c.in_ok-taken-in-Left.was)
+returns-in-Some c = rw (c.in-Left.is, c.onward.ensures, ← c.operand.ensures, c.in-Some.is)
 
-pub returns-in_err-taken-in-Right : goal.returns-in_err-taken-in-Right
+pub returns-in_default-operand : goal.returns-in_default-operand
 unfolding slot_by
-returns-in_err-taken-in-Right c = rw (c.in-Right.is, c.from_residual-in_err-taken-in-Right.ensures, ← c.operand-in-Right.ensures, c.in_err-taken-in-Right.was)
+returns-in_default-operand c = rw (c.in-Right.is, ← c.operand-in-Right.ensures, c.in_default-operand.is)
 
 pub onward-requires-in-Right : goal.onward-requires-in-Right
-onward-requires-in-Right c = (c.requires, found_small (operand_used c.args.t c.args.u) c.operand-in-Right.ensures c.in_ok-taken-in-Right.was)
+onward-requires-in-Right c = (c.requires, found_small (operand_used c.args.t c.args.u) c.operand-in-Right.ensures c.in-Some-operand.is)
 
-pub returns-in_ok-taken-in-Right : goal.returns-in_ok-taken-in-Right
+pub returns-in-Some-operand : goal.returns-in-Some-operand
 unfolding slot_by
-returns-in_ok-taken-in-Right c = rw (c.in-Right.is, c.onward-in-Right.ensures, ← c.operand-in-Right.ensures, c.in_ok-taken-in-Right.was)
+returns-in-Some-operand c = rw (c.in-Right.is, c.onward-in-Right.ensures, ← c.operand-in-Right.ensures, c.in-Some-operand.is)
 
-pub returns-in_err-taken-in-Start : goal.returns-in_err-taken-in-Start
+pub returns-in_default-literal : goal.returns-in_default-literal
 unfolding slot_by
-returns-in_err-taken-in-Start c = rw (c.in-Start.is, c.from_residual-in_err-taken-in-Start.ensures, ← c.literal.ensures, c.in_err-taken-in-Start.was)
+returns-in_default-literal c = rw (c.in-Start.is, ← c.literal.ensures, c.in_default-literal.is)
 
 pub onward-requires-in-Start : goal.onward-requires-in-Start
-onward-requires-in-Start c = (c.requires, found_small (literal_used c.args.t c.args.u) c.literal.ensures c.in_ok-taken-in-Start.was)
+onward-requires-in-Start c = (c.requires, found_small (literal_used c.args.t c.args.u) c.literal.ensures c.in-Some-literal.is)
 
-pub returns-in_ok-taken-in-Start : goal.returns-in_ok-taken-in-Start
+pub returns-in-Some-literal : goal.returns-in-Some-literal
 unfolding slot_by
-returns-in_ok-taken-in-Start c = rw (c.in-Start.is, c.onward-in-Start.ensures, ← c.literal.ensures, c.in_ok-taken-in-Start.was)
+returns-in-Some-literal c = rw (c.in-Start.is, c.onward-in-Start.ensures, ← c.literal.ensures, c.in-Some-literal.is)
 
 pub returns-in-Is : goal.returns-in-Is
 unfolding slot_by
