@@ -7,7 +7,7 @@ use Prim.Native.Nat.{ℕ, zero, suc, ◌+◌, ◌≤◌, ◌<◌}
 use native.Mathlib.Omega.{arith}
 use borrow.Author.Tests.{eqb-true, eq-eqb, ne_eqb}
 use lib.Dec.{eqb}
-use Rattle.std.specs.Prelude.{ℤ, Option, Some, None, Result, Ok, Err}
+use Rattle.std.specs.Prelude.{ℤ, Result, Ok, Err}
 use Rattle.numbers.specs.Bytes.{number, ascii}
 use Rattle.numbers.specs.Tests.{any_of, eq_list}
 use Rattle.numbers.proofs.Truth.{if_same, cond_no}
@@ -75,19 +75,19 @@ module _ (ts : Tokens) where
   abbrev chosen : ℕ
   chosen = form_for (token_at ts.at 0).key (token_at ts.at 1).key ts.count
 
-  abbrev filled : ℕ → Option Match
+  abbrev filled : ℕ → Result Match Match
   filled f = fill_by (slots_of f) ts.at no_match
 
-  abbrev decided : ℕ → Option Match → Reading → Reading
-  decided f o more = elim o [ Some m ↦ cond (eqb m.place ts.count) (read_parts f (parts_of m)) more | None ↦ more ]
+  abbrev decided : ℕ → Result Match Match → Reading → Reading
+  decided f o more = elim o [ Ok m ↦ cond (eqb m.place ts.count) (read_parts f (parts_of m)) more | Err m ↦ more ]
 
   abbrev by : ℕ → Reading
   by f = decided f (filled f) (Err E.BadForm)
 
   -- Where another form is chosen, this one decides nothing.
-  other : (n : ℕ) → n < 21 → (chosen ≡ n → ⊥) → (o : Option Match) → filled n ≡ o → (more : Reading) → decided n o more ≡ more
-  other n h g None f more = refl
-  other n h g (Some m) f more = cond_no (eqb m.place ts.count) _ _ (ne_eqb m.place ts.count (λ e. g (only_form ts n h m (f, e))))
+  other : (n : ℕ) → n < 21 → (chosen ≡ n → ⊥) → (o : Result Match Match) → filled n ≡ o → (more : Reading) → decided n o more ≡ more
+  other n h g (Err m) f more = refl
+  other n h g (Ok m) f more = cond_no (eqb m.place ts.count) _ _ (ne_eqb m.place ts.count (λ e. g (only_form ts n h m (f, e))))
 
   passed : (n k : ℕ) → n + k ≡ 21 → chosen < n → form_by (form_numbers k n) ts ≡ Err E.BadForm
   unfolding form_by form_numbers
@@ -105,13 +105,13 @@ module _ (ts : Tokens) where
   form_law : form_by (form_numbers 21 0) ts ≡ by chosen
   form_law = reached 0 21 refl (omega arith)
 
-  pub form_fits : {f : ℕ} {o : Option Match} {m : Match} → f ≡ chosen → o ≡ filled f → o ≡ Some m → m.place ≡ ts.count
+  pub form_fits : {f : ℕ} {o : Result Match Match} {m : Match} → f ≡ chosen → o ≡ filled f → o ≡ Ok m → m.place ≡ ts.count
       → read_parts f (parts_of m) ≡ form_by (form_numbers 21 0) ts
   form_fits {f} {o} {m} p q r e = rw (form_law, ← p, ← q, r, eq-eqb m.place ts.count e)
 
-  pub form_not : {f : ℕ} {o : Option Match} {m : Match} → f ≡ chosen → o ≡ filled f → o ≡ Some m → (m.place ≡ ts.count → ⊥)
+  pub form_not : {f : ℕ} {o : Result Match Match} {m : Match} → f ≡ chosen → o ≡ filled f → o ≡ Ok m → (m.place ≡ ts.count → ⊥)
       → Err E.BadForm ≡ form_by (form_numbers 21 0) ts
   form_not {f} {o} {m} p q r e = rw (form_law, ← p, ← q, r, ne_eqb m.place ts.count e)
 
-  pub form_none : {f : ℕ} {o : Option Match} → f ≡ chosen → o ≡ filled f → o ≡ None → Err E.BadForm ≡ form_by (form_numbers 21 0) ts
+  pub form_none : {f : ℕ} {o : Result Match Match} {m : Match} → f ≡ chosen → o ≡ filled f → o ≡ Err m → Err E.BadForm ≡ form_by (form_numbers 21 0) ts
   form_none p q r = rw (form_law, ← p, ← q, r)

@@ -9,8 +9,7 @@ use native.Mathlib.Omega.{arith}
 use borrow.Author.Tests.{leb-true, leb-false, eq-eqb, ne_eqb}
 use lib.Dec.{eqb, leb}
 use lib.ListN.{length, take, drop}
-use Rattle.std.specs.Prelude as Std
-use Rattle.std.specs.Prelude.{Some, None, Result, Ok, Err}
+use Rattle.std.specs.Prelude.{Result, Ok, Err}
 use Rattle.numbers.specs.Tests.{all_of, any_of, eq_list}
 use Rattle.numbers.specs.Bytes.{ascii}
 use Rattle.numbers.proofs.Truth.{cond_yes, cond_no}
@@ -74,7 +73,7 @@ module _ (ts : List Paper.Token) (g : Goods ts) (us : Tokens) (count : us.count 
       law = ap (fill f.slots ts) (sym start_parts) ∙ fill_law ts g us.at read r.slots no_match (omega arith)
 
       -- Where each slot took something: by whether no token is left.
-      whole : (m : Match) (b : Bool) → eqb m.place (length ts) ≡ b → fill f.slots ts no_parts ≡ finish ts (Some m) → form_by ns us ≡ answer (by_form fs ts)
+      whole : (m : Match) (b : Bool) → eqb m.place (length ts) ≡ b → fill f.slots ts no_parts ≡ finish ts (Ok m) → form_by ns us ≡ answer (by_form fs ts)
           → cond (eqb m.place us.count) (read_parts n (parts_of m)) (form_by ns us) ≡ answer (goes (fill f.slots ts no_parts))
       whole m true e l ih =
           let found : fill f.slots ts no_parts ≡ some (parts_of m) = l ∙ cond_yes (eqb m.place (length ts)) _ _ e in
@@ -85,10 +84,10 @@ module _ (ts : List Paper.Token) (g : Goods ts) (us : Tokens) (count : us.count 
           let found : fill f.slots ts no_parts ≡ none = l ∙ cond_no (eqb m.place (length ts)) _ _ e in
           cond_no (eqb m.place us.count) _ _ (ap (eqb m.place) count ∙ e) ∙ ih ∙ sym (ap (λ (o : Option Parts). answer (goes o)) found)
 
-      pick : (o : Std.Option Match) → fill f.slots ts no_parts ≡ finish ts o → form_by ns us ≡ answer (by_form fs ts)
-          → elim o [ Some m ↦ cond (eqb m.place us.count) (read_parts n (parts_of m)) (form_by ns us) | None ↦ form_by ns us ] ≡ answer (goes (fill f.slots ts no_parts))
-      pick (Some m) l ih = whole m (eqb m.place (length ts)) refl l ih
-      pick None l ih = ih ∙ sym (ap (λ (o : Option Parts). answer (goes o)) l)
+      pick : (o : Result Match Match) → fill f.slots ts no_parts ≡ finish ts o → form_by ns us ≡ answer (by_form fs ts)
+          → elim o [ Ok m ↦ cond (eqb m.place us.count) (read_parts n (parts_of m)) (form_by ns us) | Err m ↦ form_by ns us ] ≡ answer (goes (fill f.slots ts no_parts))
+      pick (Ok m) l ih = whole m (eqb m.place (length ts)) refl l ih
+      pick (Err m) l ih = ih ∙ sym (ap (λ (o : Option Parts). answer (goes o)) l)
 
 -- All tokens of a line.
 nothing_says : statement_by (packed []) ≡ answer (statement [])

@@ -1,6 +1,6 @@
 -- What the code reads of a line, in its own shape. No demand reaches this; proofs/ ties it to the definitions of the paper.
 -- Assumes nothing.
-use Rattle.std.specs.Prelude.{Some, None, Bool, false, cond, ◌&&◌, ◌||◌, not, List, [], ◌∷◌, ℕ, zero, suc, eqb, get_or, ℤ, pos, Result, Ok, Err}
+use Rattle.std.specs.Prelude.{Bool, false, cond, ◌&&◌, ◌||◌, not, List, [], ◌∷◌, ℕ, zero, suc, eqb, get_or, ℤ, pos, Result, Ok, Err}
 use Rattle.std.specs.Result.{result_unwrap_or}
 use Rattle.numbers.specs.Tests.{all_of}
 use Rattle.program.specs.Names.{Name, reserved}
@@ -131,8 +131,8 @@ form_by [] ts = Err E.BadForm
 form_by (f ∷ fs) ts =
     let more = form_by fs ts in
     elim (fill_by (slots_of f) ts.at no_match) [
-      | Some m ↦ cond (eqb m.place ts.count) (read_parts f (parts_of m)) more
-      | None ↦ more
+      | Ok m ↦ cond (eqb m.place ts.count) (read_parts f (parts_of m)) more
+      | Err m ↦ more
     ]
 
 unfoldable pub form_numbers : ℕ → ℕ → List ℕ

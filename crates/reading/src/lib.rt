@@ -112,7 +112,7 @@ fn by_form(ts: Tokens) -> Result<Said, LineFault>
 {
     let at = ts.at;
     let form = forms::form_for(at[0].key, at[1].key, ts.count);
-    let Some(m) = forms::fill(form, ts) else {
+    let Ok(m) = forms::fill(form, ts) else {
         return Err(LineFault::BadForm);
     };
     if m.place == ts.count {

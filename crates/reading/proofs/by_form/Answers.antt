@@ -20,9 +20,9 @@ returns-in_default c =
 pub returns-then-m-ts : goal.returns-then-m-ts
 unfolding token_at
 returns-then-m-ts c =
-    c.read.ensures ∙ form_fits _ c.form_for-form.ensures c.fill.ensures c.in-Some.is c.if-m-ts.true
+    c.read.ensures ∙ form_fits _ c.form_for-form.ensures c.fill.ensures c.in-Ok.is c.if-m-ts.true
 
 pub returns : goal.returns
 unfolding token_at
 returns c =
-    form_not _ c.form_for-form.ensures c.fill.ensures c.in-Some.is c.if-m-ts.false
+    form_not _ c.form_for-form.ensures c.fill.ensures c.in-Ok.is c.if-m-ts.false
