@@ -68,6 +68,7 @@ most : List Slot → ℕ
 most [] = 0
 most (s ∷ ss) = cond (is_end s) 0 (width s + most ss)
 
+-- What failed is no match that is filled.
 not_filled : (m n : Match) → Err m ≡ Ok n → ⊥
 not_filled m n e = true≢false (ap (λ (o : Result Match Match). is_ok o) (sym e))
 

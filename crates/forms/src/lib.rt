@@ -275,7 +275,7 @@ impl Match {
         self
     }
 
-    // A word on; an error where it doesn't fit.
+    // A word on; an error where it does not fit.
     fn word(self, fits: bool) -> Result<Match, Match>
         requires { self.place < 64 }
         ensures { result ≡ word_by fits self }
@@ -287,7 +287,7 @@ impl Match {
         Err(m)
     }
 
-    // What a slot takes of the next two tokens; an error where it takes nothing, with the word that doesn't fit, or with no value.
+    // What a slot takes of the next two tokens; an error where it takes nothing, one token on where a word does not fit.
     fn slot(mut self, slot: Slot, t: Token, u: Token) -> Result<Match, Match>
         requires { self.place < 64 }
         ensures { result ≡ slot_by self slot t u }
