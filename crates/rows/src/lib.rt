@@ -9,7 +9,8 @@ ghost use Rattle.rows.specs.Rows.{second_place, row_of, row_at, enter};
 use program::names;
 
 // What the first line that declares a name makes of it: its kind; the number of that line, from 1; and for a label the cells, for a variable
-// the variables in front of it. The numbers may be any.
+// the variables in front of it.
+// Stays: three numbers, whatever they are, make a row: `row_at` and `enter` (specs/Rows.antt) keep one of any kind and hand it back.
 #[derive(Clone, Copy, PartialEq, Eq, PartialOrd, Ord, Hash, Debug)]
 pub struct Row {
     pub kind: usize,
@@ -18,7 +19,7 @@ pub struct Row {
 }
 
 // What a line declares a name as; nothing where no line does.
-// Stays: docs/PAPER.md names `look_up` and `enter`, which take any row: one of another kind than these is kept and handed back as it is.
+// Stays: numbers and no enum, since docs/PAPER.md names `look_up` and `enter`, which take any row; `made` (specs/Rows.antt) says these.
 pub const NOTHING: usize = 0;
 
 pub const LABEL: usize = 1;
