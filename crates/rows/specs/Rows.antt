@@ -3,7 +3,7 @@
 use Rattle.std.specs.Prelude.{◌≡◌, Bool, true, false, cond, ◌&&◌, ◌||◌, not, List, [], ◌∷◌, ℕ, suc, ◌+◌, ◌*◌, ◌-◌, eqb, leb, ltb, get_or, set, replicate}
 use Rattle.numbers.specs.Tests.{any_of}
 use Rattle.program.specs.Names.{Name, two_characters}
-use Rattle.rows.specs.declared.Row as Declared
+use Rattle.rows.specs.declared.Row as OfCode
 use Rattle.text.specs.Forms.{Line, Blank, Label, Declared, Acts}
 use Rattle.text.specs.Faults.{declares_it, makes_cell, makes_label, makes_variable, first_makes, place_of, number_of}
 
@@ -21,7 +21,7 @@ row_of w = cond (two_characters w) ((get_or w 0 0 - 65) * 36 + second_place (get
 -- What stands in a row: 1 for a label, 2 for a variable, 0 where no line declares the name; the line's number; the cells before a label, the
 -- variables before a variable.
 abbrev pub Row : Type 0
-Row = Declared.Row
+Row = OfCode.Row
 
 abbrev pub row : ℕ → ℕ → ℕ → Row
 row kind line place = record { kind = kind; line = line; place = place }
