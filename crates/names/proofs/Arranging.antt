@@ -18,7 +18,6 @@ use Rattle.reading.specs.declared.Said.TheVariants as S
 use Rattle.reading.proofs.Heard.{Fine, heard_fine, reading_told}
 use Rattle.rows.specs.Rows.{Row, row, place, no_row, row_at, enter, made, entered, plus, arranged_from, arranged, Sought}
 use Rattle.rows.proofs.Seeking as Seeking
-use Rattle.rows.specs.declared.Kind.TheVariants as K
 use Rattle.rows.proofs.Seeking.{Spelt, looked_up, enter_long}
 use Rattle.names.specs.declared.Counts.{Counts}
 use Rattle.names.specs.Code.{Reached, counted, entered_by}
@@ -48,8 +47,8 @@ near s w = omega (arith, Seeking.near (said s) w (all_spelt (lines s)), few_said
 entered_by_lem : (n c v : ℕ) (x : Line) (rows : List Row) → Fine x → entered_by n c v (said_by x) rows ≡ entered n c v x rows
 unfolding entered_by made entered said_by
 entered_by_lem n c v Blank rows f = refl
-entered_by_lem n c v (Label w) rows f = ap (λ (u : Name). enter rows u (row K.Label n c)) (name_key_lem w (free_word w f))
-entered_by_lem n c v (Declared w z) rows f = ap (λ (u : Name). enter rows u (row K.Variable n v)) (name_key_lem w (free_word w f.0))
+entered_by_lem n c v (Label w) rows f = ap (λ (u : Name). enter rows u (row 1 n c)) (name_key_lem w (free_word w f))
+entered_by_lem n c v (Declared w z) rows f = ap (λ (u : Name). enter rows u (row 2 n v)) (name_key_lem w (free_word w f.0))
 entered_by_lem n c v (Acts s) rows f = refl
 
 pub entered_long : (n c v : ℕ) (x : Said) (rows : List Row) → length (entered_by n c v x rows) ≡ length rows

@@ -10,7 +10,7 @@ use native.Mathlib.Omega.{arith}
 use borrow.Author.Tests.{lt-ltb}
 use lib.Dec.{eqb, ltb, leb-suc-suc}
 use lib.ListN.{length}
-use Rattle.std.specs.Prelude.{Some, None, Result, Ok, Err}
+use Rattle.std.specs.Prelude.{Result, Ok, Err}
 use Rattle.numbers.specs.Tests.{eq_list, any_of, lowest}
 use Rattle.numbers.proofs.Truth.{is_true, of_both}
 use Rattle.numbers.proofs.Tests.{each_then, any_append, eq_list_refl}
@@ -35,8 +35,7 @@ use Rattle.reading.specs.declared.LineFault.TheVariants as E
 use Rattle.text.proofs.Words.{variable_word}
 use Rattle.text.proofs.Filled.{Known, Named}
 use Rattle.reading.proofs.Heard.{Fine, heard_fine, line_fault, reading_told, repeated_asked, unknown_asked, undeclared_asked, read_only_asked}
-use Rattle.rows.specs.Rows.{Row, kind, kind_number, line, row_at, arranged, lines_before}
-use Rattle.rows.specs.declared.Kind.TheVariants as K
+use Rattle.rows.specs.Rows.{Row, kind, line, row_at, arranged, lines_before}
 use Rattle.names.specs.declared.Counts.{Counts}
 use Rattle.names.specs.Code.{KeyOperand, Keyed, unknown_variable_in, unknown_value_in, unknown_target, unknown_written, unknown_operand, unknown_cell, read_only_key, first_as, earlier, SaidKeyed, ReadKeyed, repeated_by, too_many_by, counts_of, number_of_fault, lowest_number, fault_by}
 use Rattle.names.specs.declared.TextFault.{TextFault}
@@ -45,11 +44,11 @@ use Rattle.names.proofs.Arranging.{sought}
 
 -- A variable that is declared as one; any other.
 module _ (rows : List Row) (w : Name) {r : Row} (e : r ≡ row_at rows w) where
-  pub variable_declared : first_as r K.Variable ≡ true → false ≡ unknown_variable_in rows w
+  pub variable_declared : first_as r 2 ≡ true → false ≡ unknown_variable_in rows w
   unfolding unknown_variable_in
   variable_declared h = rw (← e, h) (sym (and-false (eqb (paper_variable w) 0)))
 
-  pub variable_other : {n : ℕ} → first_as r K.Variable ≡ false → n ≡ paper_variable w → eqb n 0 ≡ unknown_variable_in rows w
+  pub variable_other : {n : ℕ} → first_as r 2 ≡ false → n ≡ paper_variable w → eqb n 0 ≡ unknown_variable_in rows w
   unfolding unknown_variable_in
   variable_other h k = rw (← e, h, k) (sym (and-true (eqb (paper_variable w) 0)))
 
@@ -59,16 +58,16 @@ module _ (rows : List Row) (k : ℕ) where
   unfolding unknown_target no_target
   no_target_lem h = pick (eqb k 0) (eqb k 65535) h
     where
-      pick : (a b : Bool) → (a || b) ≡ true → false ≡ ((not a && not b) && not (first_as (row_at rows (name_of k)) K.Label))
+      pick : (a b : Bool) → (a || b) ≡ true → false ≡ ((not a && not b) && not (first_as (row_at rows (name_of k)) 1))
       pick true b h = refl
       pick false true h = refl
       pick false false h = absurd (true≢false (sym h))
 
-  pub target_sought : (eqb k 0 || eqb k 65535) ≡ false → not (first_as (row_at rows (name_of k)) K.Label) ≡ unknown_target rows k
+  pub target_sought : (eqb k 0 || eqb k 65535) ≡ false → not (first_as (row_at rows (name_of k)) 1) ≡ unknown_target rows k
   unfolding unknown_target no_target
   target_sought h = pick (eqb k 0) (eqb k 65535) h
     where
-      pick : (a b : Bool) → (a || b) ≡ false → not (first_as (row_at rows (name_of k)) K.Label) ≡ ((not a && not b) && not (first_as (row_at rows (name_of k)) K.Label))
+      pick : (a b : Bool) → (a || b) ≡ false → not (first_as (row_at rows (name_of k)) 1) ≡ ((not a && not b) && not (first_as (row_at rows (name_of k)) 1))
       pick true b h = absurd (true≢false h)
       pick false true h = absurd (true≢false h)
       pick false false h = refl
@@ -147,8 +146,7 @@ any_there w before x after d = any_append (declares_it w) before (x ∷ after) �
 -- Of a name that is declared, the row tells the line.
 earlier_found : (r : Row) (n : ℕ) → eqb (kind r) 0 ≡ false → earlier r n ≡ ltb (line r) n
 unfolding earlier
-earlier_found None n h = absurd (true≢false h)
-earlier_found (Some d) n h = refl
+earlier_found r n h = rw h
 
 same_in_cell : (P Q : Cell → Bool) → ((c : Cell) → P c ≡ Q c) → (x : Said) → in_cell P x ≡ in_cell Q x
 unfolding in_cell
@@ -163,7 +161,7 @@ module _ (s : List ℕ) where
   R = arranged (said s)
 
   variable_told : (w : Name) → unknown_variable_in R w ≡ unknown_variable (said s) w
-  unfolding unknown_variable_in unknown_variable first_as kind_number
+  unfolding unknown_variable_in unknown_variable first_as
   variable_told w = rw (sought s w).variable
 
   value_told_lem : (x : Said.Value Name) → unknown_value_in R x ≡ unknown_value (said s) x
@@ -177,7 +175,7 @@ module _ (s : List ℕ) where
   operand_told (O.Variable k) = value_told_lem (Variable (name_of k))
 
   cell_told : (c : Cell) → unknown_asked (said s) c ≡ unknown_cell R c
-  unfolding unknown_cell unknown_target unknown_written unknown_operand first_as kind_number
+  unfolding unknown_cell unknown_target unknown_written unknown_operand first_as
   cell_told c = rw ((sought s (name_of c.target)).label, variable_told (name_of c.written), operand_told c.left, operand_told c.right)
 
   unknown_told : (x : Line) → Fine x → undeclared (said s) x ≡ in_cell (unknown_cell R) (said_by x)

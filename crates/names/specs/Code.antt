@@ -1,6 +1,6 @@
 -- What the code finds by walking the lines of a text, with names as keys and by their rows. No demand reaches this; proofs/ ties it to the paper's definitions.
 -- Assumes nothing.
-use Rattle.std.specs.Prelude.{◌≡◌, Bool, false, ◌&&◌, ◌||◌, not, List, [], ◌∷◌, ◌++◌, map, ℕ, ◌+◌, ◌<◌, eqb, leb, ltb, length, Some, None, Result, Ok, Err}
+use Rattle.std.specs.Prelude.{◌≡◌, Bool, false, ◌&&◌, ◌||◌, not, List, [], ◌∷◌, ◌++◌, map, ℕ, ◌+◌, ◌<◌, eqb, leb, ltb, length, Result, Ok, Err}
 use Rattle.std.proofs.lemmas.List.Edits.{sets}
 use Rattle.numbers.specs.Tests.{lowest}
 use Rattle.program.specs.Names.{Name, paper_variable}
@@ -17,9 +17,7 @@ use Rattle.text.specs.declared.Fault.{Fault}
 use Rattle.reading.specs.Code.{Reading, fault_number, faulty_by, told_by, in_declared, in_cell, aims_at, in_operand}
 use Rattle.reading.specs.declared.Said.{Said}
 use Rattle.reading.specs.declared.Said.TheVariants as S
-use Rattle.rows.specs.Rows.{Row, row, kind, kind_number, row_at, enter}
-use Rattle.rows.specs.declared.Kind.{Kind}
-use Rattle.rows.specs.declared.Kind.TheVariants as K
+use Rattle.rows.specs.Rows.{Row, row, kind, line, row_at, enter}
 use Rattle.names.specs.declared.Counts.{Counts}
 use Rattle.names.specs.declared.TextFault.{TextFault}
 use Rattle.names.specs.declared.TextFault.TheVariants as F
@@ -27,8 +25,8 @@ use Rattle.names.specs.declared.TextFault.TheVariants as F
 -- A line that says this, with this number and so many cells and variables before it, enters the name that it declares.
 unfoldable pub entered_by : ℕ → ℕ → ℕ → Said → List Row → List Row
 entered_by n cells variables S.Blank rows = rows
-entered_by n cells variables (S.Label k) rows = enter rows (name_of k) (row K.Label n cells)
-entered_by n cells variables (S.Declared k z) rows = enter rows (name_of k) (row K.Variable n variables)
+entered_by n cells variables (S.Label k) rows = enter rows (name_of k) (row 1 n cells)
+entered_by n cells variables (S.Declared k z) rows = enter rows (name_of k) (row 2 n variables)
 entered_by n cells variables (S.Acts c) rows = rows
 
 -- The keys in a cell are those of names of two characters at most.
@@ -53,19 +51,18 @@ ReadKeyed (Ok x) = SaidKeyed x
 ReadKeyed (Err e) = Unit {0}
 
 -- The name of a row is first declared as this; by a line before the one with this number.
-unfoldable pub first_as : Row → Kind → Bool
-first_as r k = eqb (kind r) (kind_number k)
+unfoldable pub first_as : Row → ℕ → Bool
+first_as r k = eqb (kind r) k
 
 unfoldable pub earlier : Row → ℕ → Bool
-earlier None n = false
-earlier (Some d) n = ltb d.line n
+earlier r n = not (eqb (kind r) 0) && ltb (line r) n
 
 -- A cell with keys names what is not first declared so, by the rows of the names.
 unfoldable pub unknown_target : List Row → ℕ → Bool
-unknown_target rows k = aims_at k && not (first_as (row_at rows (name_of k)) K.Label)
+unknown_target rows k = aims_at k && not (first_as (row_at rows (name_of k)) 1)
 
 unfoldable pub unknown_variable_in : List Row → Name → Bool
-unknown_variable_in rows w = eqb (paper_variable w) 0 && not (first_as (row_at rows w) K.Variable)
+unknown_variable_in rows w = eqb (paper_variable w) 0 && not (first_as (row_at rows w) 2)
 
 unfoldable pub unknown_value_in : List Row → Value Name → Bool
 unknown_value_in rows (Literal z) = false

@@ -10,7 +10,7 @@ ghost use Rattle.names.specs.declared.TextFault.TheVariants.{Own};
 
 use program::{Cell, Operand, Variable};
 use reading::{LineFault, Said};
-use rows::{Declaration, Kind, Row};
+use rows::Row;
 use text::Fault;
 
 // How many cells, labels and variables some lines make.
@@ -75,14 +75,14 @@ fn enter_line(rows: &mut [Row], line: usize, counts: Counts, said: Said)
     match said {
         Said::Blank | Said::Acts(_) => {}
         Said::Label(name) => {
-            let kind = Kind::Label;
+            let kind = rows::LABEL;
             let place = counts.cells;
-            rows::enter(rows, name, Some(Declaration { kind, line, place }));
+            rows::enter(rows, name, Row { kind, line, place });
         }
         Said::Declared(name, _) => {
-            let kind = Kind::Variable;
+            let kind = rows::VARIABLE;
             let place = counts.variables;
-            rows::enter(rows, name, Some(Declaration { kind, line, place }));
+            rows::enter(rows, name, Row { kind, line, place });
         }
     }
 }
@@ -122,7 +122,7 @@ impl Counts {
 pub fn arrange(s: &[u8]) -> [Row; rows::COUNT]
     ensures { result ≡ arranged (said s.now) }
 {
-    let mut rows = [None; rows::COUNT];
+    let mut rows = [rows::NO_ROW; rows::COUNT];
     let mut counts = Counts::NONE;
     for (k, line) in text::lines_of(s).enumerate() {
         let said = reading::read_line(line).unwrap_or(Said::Blank);
@@ -141,20 +141,17 @@ pub fn declared_as(s: &[u8], key: u16) -> Row
 }
 
 // The name of this row is first declared as a label, or as a variable.
-fn is_first(row: Row, wanted: Kind) -> bool
+fn is_first(row: Row, wanted: usize) -> bool
     ensures { result ≡ first_as row wanted }
 {
-    match row {
-        Some(declared) => declared.kind == wanted,
-        None => false,
-    }
+    row.kind == wanted
 }
 
 // No variable of the paper's, and not first declared as a variable.
 fn is_unknown_variable(rows: &[Row], key: u16) -> bool
     ensures { result ≡ unknown_variable_in rows.now (name_of key) }
 {
-    if is_first(rows::look_up(rows, key), Kind::Variable) {
+    if is_first(rows::look_up(rows, key), rows::VARIABLE) {
         return false;
     }
     Variable::number_of(key) == 0
@@ -167,7 +164,7 @@ fn is_unknown_target(rows: &[Row], target: u16) -> bool
     if (target == NO_NAME) | (target == Cell::NO_TARGET) {
         return false;
     }
-    !is_first(rows::look_up(rows, target), Kind::Label)
+    !is_first(rows::look_up(rows, target), rows::LABEL)
 }
 
 fn is_unknown_written(rows: &[Row], key: u16) -> bool
@@ -216,10 +213,7 @@ fn writes_read_only(key: u16) -> bool
 fn is_earlier(row: Row, line: usize) -> bool
     ensures { result ≡ earlier row line }
 {
-    match row {
-        Some(declared) => declared.line < line,
-        None => false,
-    }
+    (row.kind != rows::NOTHING) & (row.line < line)
 }
 
 // The line with this number declares a name that a line before it declares.

@@ -3,13 +3,13 @@
 use mathlib.Core.Path.{◌≡◌, refl, sym, ap, ◌∙◌}
 use mathlib.Core.Bool.{Bool, true, false, cond, ◌||◌, not, or-false, true≢false}
 use mathlib.Core.List.{List, [], ◌∷◌}
-use Prim.Native.Nat.{ℕ, suc, ◌+◌, ◌≤◌}
+use Prim.Native.Nat.{ℕ, suc, ◌+◌, ◌≤◌, ◌<◌}
 use native.Mathlib.Nat.{add-zero}
 use native.Mathlib.Omega.{arith}
+use borrow.Author.Tests.{lt-ltb, le-ltb}
 use lib.Dec.{T, eqb, ltb}
 use lib.ListN.{length, get_or, set, replicate, length-replicate, length-set, get_or-replicate, get_or-eq_default}
 use lib.Seq.{set_out, get_or-set_same, get_or-set_other}
-use Rattle.std.specs.Prelude.{Some, None}
 use Rattle.numbers.specs.Tests.{eq_list, any_of, Each}
 use Rattle.numbers.proofs.Truth.{is_true, true_is, if_below, of_both}
 use Rattle.numbers.proofs.Tests.{eq_list_refl, eq_list_eq}
@@ -17,10 +17,7 @@ use Rattle.program.specs.Names.{Name, paper_variable, two_characters, user_name}
 use Rattle.program.proofs.Keys.{user_two, user_no_paper}
 use Rattle.text.specs.Forms.{Line, Blank, Label, Declared, Acts}
 use Rattle.text.specs.Faults.{declares, declares_it, makes_cell, makes_label, makes_variable, first_makes, place_of, rank_of, number_of}
-use Rattle.rows.specs.declared.Declaration.{Declaration}
-use Rattle.rows.specs.declared.Kind.{Kind}
-use Rattle.rows.specs.declared.Kind.TheVariants as K
-use Rattle.rows.specs.Rows.{row_of, Row, kind_number, kind, line, place, no_row, row_at, enter, made, entered, plus, arranged_from, arranged, lines_before, Sought}
+use Rattle.rows.specs.Rows.{row_of, Row, kind, line, place, no_row, row_at, enter, made, entered, plus, arranged_from, arranged, lines_before, Sought}
 use Rattle.rows.proofs.Order.{below, past, apart}
 
 -- The names that lines declare are the user's.
@@ -61,12 +58,6 @@ module _ (rows : List Row) (long : length rows ≡ 936) (v w : Name) (t : T (two
       of_both (λ (z : List Row). get_or z (row_of w) no_row ≡ get_or rows (row_of w) no_row) (ltb 0 (kind (row_at rows v))) refl
       (get_or-set_other rows (row_of v) (row_of w) r no_row (λ h. rows_apart v w t e (sym h)))
 
--- What is declared has a kind.
-some_kind : (k : Kind) → ltb 0 (kind_number k) ≡ true
-unfolding kind_number
-some_kind K.Label = refl
-some_kind K.Variable = refl
-
 -- A name past the rows; one in whose row something stands, or nothing.
 module _ (rows : List Row) (w : Name) {i : ℕ} (e : i ≡ row_of w) where
   pub look_past : length rows ≤ i → no_row ≡ row_at rows w
@@ -82,13 +73,13 @@ module _ (rows : List Row) (w : Name) {i : ℕ} (e : i ≡ row_of w) where
     unfolding enter
     enter_past h = of_both (λ (z : List Row). rows ≡ z) (ltb 0 (kind (row_at rows w))) refl (sym (set_out rows (row_of w) r (omega arith)))
 
-    pub enter_there : {d : Declaration} → get_or rows i no_row ≡ Some d → rows ≡ enter rows w r
+    pub enter_there : 0 < kind (get_or rows i no_row) → rows ≡ enter rows w r
     unfolding enter
-    enter_there {d} h = rw (← look_at, h, some_kind d.kind)
+    enter_there h = rw (← look_at, lt-ltb 0 (kind (get_or rows i no_row)) h)
 
-    pub enter_new : get_or rows i no_row ≡ None → set rows i r ≡ enter rows w r
+    pub enter_new : kind (get_or rows i no_row) ≤ 0 → set rows i r ≡ enter rows w r
     unfolding enter
-    enter_new h = rw (← e, ← look_at, h)
+    enter_new h = rw (← e, ← look_at, le-ltb 0 (kind (get_or rows i no_row)) h)
 
 -- The arrangement keeps its length.
 pub enter_long : (rows : List Row) (w : Name) (r : Row) → length (enter rows w r) ≡ length rows
@@ -113,7 +104,7 @@ entered_at n c v (Acts s) rows w t long = refl
 
 -- A row that a line makes of a name that it declares holds something.
 made_some : (n c v : ℕ) (x : Line) (w : Name) → declares_it w x ≡ true → ltb 0 (kind (made n c v x)) ≡ true
-unfolding declares_it declares any_of made kind_number
+unfolding declares_it declares any_of made
 made_some n c v Blank w e = e
 made_some n c v (Label u) w e = refl
 made_some n c v (Declared u z) w e = refl
@@ -184,7 +175,7 @@ made_is : (n c v : ℕ) (w : Name) (x : Line) → declares_it w x ≡ true
     → let r = made n c v x in
     (eqb (kind r) 1 ≡ makes_label x) × (eqb (kind r) 2 ≡ makes_variable x) × (eqb (kind r) 0 ≡ false)
     × (line r ≡ n) × (eqb (kind r) 1 ≡ true → place r ≡ c) × (eqb (kind r) 2 ≡ true → place r ≡ v)
-unfolding made declares_it declares any_of makes_label makes_variable kind_number
+unfolding made declares_it declares any_of makes_label makes_variable
 made_is n c v w Blank d = absurd (true≢false (sym d))
 made_is n c v w (Label u) d = (refl, refl, refl, refl, (λ h. refl), λ h. absurd (true≢false (sym h)))
 made_is n c v w (Declared u z) d = (refl, refl, refl, refl, (λ h. absurd (true≢false (sym h))), λ h. refl)

@@ -1,11 +1,9 @@
 -- The names that a text declares, arranged in order. No demand reaches this; proofs/Seeking.antt ties it to the paper's definitions.
 -- Assumes nothing.
-use Rattle.std.specs.Prelude.{◌≡◌, Bool, true, false, cond, ◌&&◌, ◌||◌, not, List, [], ◌∷◌, ℕ, suc, ◌+◌, ◌*◌, ◌-◌, eqb, leb, ltb, get_or, set, replicate, Option, Some, None}
+use Rattle.std.specs.Prelude.{◌≡◌, Bool, true, false, cond, ◌&&◌, ◌||◌, not, List, [], ◌∷◌, ℕ, suc, ◌+◌, ◌*◌, ◌-◌, eqb, leb, ltb, get_or, set, replicate}
 use Rattle.numbers.specs.Tests.{any_of}
 use Rattle.program.specs.Names.{Name, two_characters}
-use Rattle.rows.specs.declared.Kind.{Kind}
-use Rattle.rows.specs.declared.Kind.TheVariants as K
-use Rattle.rows.specs.declared.Declaration.{Declaration}
+use Rattle.rows.specs.declared.Row as OfCode
 use Rattle.text.specs.Forms.{Line, Blank, Label, Declared, Acts}
 use Rattle.text.specs.Faults.{declares_it, makes_cell, makes_label, makes_variable, first_makes, place_of, number_of}
 
@@ -20,33 +18,25 @@ second_place c = cond (leb c 57) (c - 48) (c - 65 + 10)
 unfoldable pub row_of : Name → ℕ
 row_of w = cond (two_characters w) ((get_or w 0 0 - 65) * 36 + second_place (get_or w 1 0)) 936
 
--- What stands in a row: nothing where no line declares the name; otherwise its kind, the line's number, and the cells before a label, the
+-- What stands in a row: 1 for a label, 2 for a variable, 0 where no line declares the name; the line's number; the cells before a label, the
 -- variables before a variable.
 abbrev pub Row : Type 0
-Row = Option Declaration
+Row = OfCode.Row
 
-abbrev pub row : Kind → ℕ → ℕ → Row
-row kind line place = Some (record { kind = kind; line = line; place = place })
-
-abbrev pub no_row : Row
-no_row = None
-
--- A label by 1, a variable by 2, nothing by 0.
-unfoldable pub kind_number : Kind → ℕ
-kind_number K.Label = 1
-kind_number K.Variable = 2
+abbrev pub row : ℕ → ℕ → ℕ → Row
+row kind line place = record { kind = kind; line = line; place = place }
 
 abbrev pub kind : Row → ℕ
-kind None = 0
-kind (Some d) = kind_number d.kind
+kind r = r.kind
 
 abbrev pub line : Row → ℕ
-line None = 0
-line (Some d) = d.line
+line r = r.line
 
 abbrev pub place : Row → ℕ
-place None = 0
-place (Some d) = d.place
+place r = r.place
+
+abbrev pub no_row : Row
+no_row = row 0 0 0
 
 -- Looking a name up.
 unfoldable pub row_at : List Row → Name → Row
@@ -59,8 +49,8 @@ enter rows w r = cond (ltb 0 (kind (row_at rows w))) rows (set rows (row_of w) r
 -- The row that the line with this number makes of the name that it declares, behind so many cells and variables.
 unfoldable pub made : ℕ → ℕ → ℕ → Line → Row
 made n cells variables Blank = no_row
-made n cells variables (Label w) = row K.Label n cells
-made n cells variables (Declared w z) = row K.Variable n variables
+made n cells variables (Label w) = row 1 n cells
+made n cells variables (Declared w z) = row 2 n variables
 made n cells variables (Acts s) = no_row
 
 -- That line enters the name, if it declares one.

@@ -8,24 +8,29 @@ ghost use Rattle.rows.specs.Rows.{second_place, row_of, row_at, enter};
 
 use program::names;
 
-// What a line declares a name as.
-#[derive(Clone, Copy, PartialEq, Eq)]
-pub enum Kind {
-    Label,
-    Variable,
-}
-
 // What the first line that declares a name makes of it: its kind; the number of that line, from 1; and for a label the cells, for a variable
 // the variables in front of it.
-#[derive(Clone, Copy)]
-pub struct Declaration {
-    pub kind: Kind,
+// Stays: three numbers, whatever they are, make a row: `row_at` and `enter` (specs/Rows.antt) keep one of any kind and hand it back.
+#[derive(Clone, Copy, PartialEq, Eq, PartialOrd, Ord, Hash, Debug)]
+pub struct Row {
+    pub kind: usize,
     pub line: usize,
     pub place: usize,
 }
 
-// What stands in the row of a name: nothing where no line declares it.
-pub type Row = Option<Declaration>;
+// What a line declares a name as; nothing where no line does.
+// Stays: numbers and no enum, since docs/PAPER.md names `look_up` and `enter`, which take any row; `made` (specs/Rows.antt) says these.
+pub const NOTHING: usize = 0;
+
+pub const LABEL: usize = 1;
+
+pub const VARIABLE: usize = 2;
+
+pub const NO_ROW: Row = Row {
+    kind: NOTHING,
+    line: 0,
+    place: 0,
+};
 
 // How many names there are, and how many of them begin alike.
 pub const COUNT: usize = 936;
@@ -62,7 +67,7 @@ fn row_of(key: u16) -> usize
 pub fn look_up(rows: &[Row], key: u16) -> Row
     ensures { result ≡ row_at rows.now (name_of key) }
 {
-    rows.get(row_of(key)).copied().unwrap_or(None)
+    rows.get(row_of(key)).copied().unwrap_or(NO_ROW)
 }
 
 // Puts a row where the name with this key has its own, if nothing stands there yet.
@@ -73,8 +78,9 @@ pub fn enter(rows: &mut [Row], key: u16, row: Row)
     if rows.len() <= i {
         return;
     }
-    match rows[i] {
-        Some(_) => {}
-        None => rows[i] = row,
+    let is_taken = NOTHING < rows[i].kind;
+    if is_taken {
+        return;
     }
+    rows[i] = row;
 }

@@ -6,7 +6,6 @@ use crate::{marks, runs};
 use program::Variable;
 use program::names::{is_paper_word, is_user_name};
 use program::reserved::is_reserved;
-use rows::Kind;
 
 // What is said of what is wrong. A name is told by its key.
 #[derive(Clone, Copy)]
@@ -153,17 +152,17 @@ fn of_run(run: &[u8], is_first: bool) -> Option<FormFault> {
 }
 
 // How the name is declared that a run is, if it is one of the user's and not declared as it is wanted.
-fn of_user(text: &[u8], run: &[u8], wanted: Kind) -> Option<Hint> {
+fn of_user(text: &[u8], run: &[u8], wanted: usize) -> Option<Hint> {
     let key = runs::key(run)?;
     if !is_user_name(key) {
         return None;
     }
-    match names::declared_as(text, key).map(|declared| declared.kind) {
-        Some(kind) if kind == wanted => None,
-        Some(Kind::Label) => Some(Hint::Name(key, NameFault::IsLabel)),
-        Some(Kind::Variable) => Some(Hint::Name(key, NameFault::IsVariable)),
-        None if is_reserved(key) => Some(Hint::Name(key, NameFault::NeverDeclared)),
-        None => Some(Hint::Undeclared(key)),
+    match names::declared_as(text, key).kind {
+        kind if kind == wanted => None,
+        rows::LABEL => Some(Hint::Name(key, NameFault::IsLabel)),
+        rows::VARIABLE => Some(Hint::Name(key, NameFault::IsVariable)),
+        _ if is_reserved(key) => Some(Hint::Name(key, NameFault::NeverDeclared)),
+        _ => Some(Hint::Undeclared(key)),
     }
 }
 
@@ -294,9 +293,9 @@ fn of_names(text: &[u8], code: &[u8]) -> Found {
     let label = label_place(code);
     let wanted = |place| {
         if label == Some(place) {
-            Kind::Label
+            rows::LABEL
         } else {
-            Kind::Variable
+            rows::VARIABLE
         }
     };
     match runs::first_told(code, |place, run| of_user(text, run, wanted(place))) {

@@ -6,11 +6,11 @@ use mathlib.Core.List.{List, [], ◌∷◌, ◌++◌, map, map-append, append_as
 use Prim.Native.Nat.{ℕ, zero, suc, ◌+◌, ◌*◌, ◌≤◌}
 use native.Mathlib.Nat.{add-zero}
 use native.Mathlib.Omega.{arith}
+use borrow.Author.Tests.{eq-eqb, ne_eqb}
 use lib.Dec.{T, eqb}
 use lib.IntN.{ℤ}
 use lib.ListN.{length, length-append}
 use lib.Seq.{sets, length-sets}
-use Rattle.std.specs.Prelude.{Some, None}
 use Rattle.numbers.specs.Bytes.{Bytes, bytes}
 use Rattle.numbers.specs.Bits.{digits32}
 use Rattle.numbers.specs.Tests.{eq_list, any_of}
@@ -29,9 +29,7 @@ use Rattle.reading.specs.Code.{Reading, told_by, said_by, reading_of, placed, re
 use Rattle.reading.specs.declared.Said.{Said}
 use Rattle.reading.specs.declared.Said.TheVariants as S
 use Rattle.reading.proofs.Heard.{Fine, heard_fine, reading_told, cell_resolved}
-use Rattle.rows.specs.declared.Kind.TheVariants as K
-use Rattle.rows.specs.declared.Declaration.{Declaration}
-use Rattle.rows.specs.Rows.{Row, kind_number, place, row_at, arranged}
+use Rattle.rows.specs.Rows.{Row, kind, place, row_at, arranged}
 use Rattle.names.proofs.Lines.{first_makes_lem}
 use Rattle.image.specs.Layout.{cell_bytes}
 use Rattle.image.proofs.Back.{label_bytes_lem, variable_bytes_lem}
@@ -46,17 +44,13 @@ use Rattle.translation.proofs.Parts.{TwoNamed, AllTwo}
 
 -- The number of a variable: the user's; the paper's. The place of a label.
 module _ (rows : List Row) (w : Name) {r : Row} (e : r ≡ row_at rows w) where
-  pub number_user : {d : Declaration} → r ≡ Some d → d.kind ≡ K.Variable → 32 + d.place ≡ number_in rows w
-  unfolding number_in kind_number
-  number_user h k = rw (← e, h, k)
-
-  pub number_label : {d : Declaration} {n : ℕ} → r ≡ Some d → d.kind ≡ K.Label → n ≡ paper_variable w → n ≡ number_in rows w
-  unfolding number_in kind_number
-  number_label h k f = rw (← e, h, k) f
-
-  pub number_none : {n : ℕ} → r ≡ None → n ≡ paper_variable w → n ≡ number_in rows w
+  pub number_user : kind r ≡ 2 → 32 + place r ≡ number_in rows w
   unfolding number_in
-  number_none h f = rw (← e, h) f
+  number_user h = rw (← e, eq-eqb (kind r) 2 h)
+
+  pub number_paper : {n : ℕ} → (kind r ≡ 2 → ⊥) → n ≡ paper_variable w → n ≡ number_in rows w
+  unfolding number_in
+  number_paper h k = rw (← e, ne_eqb (kind r) 2 h) k
 
   pub place_found : place r ≡ place_in rows w
   unfolding place_in

@@ -6,7 +6,7 @@ ghost use Rattle.names.specs.Code.{Keyed, KeyOperand};
 ghost use Rattle.translation.specs.Resolving.{place_in, number_in, Low};
 
 use program::{Cell, Operand, Variable};
-use rows::{Kind, Row};
+use rows::Row;
 
 // The key where a cell has no name.
 // Stays: a cell has 0 where it has no name: `placed` and `written` (crates/reading/specs/Code.antt) ask for it.
@@ -24,13 +24,11 @@ impl<'a> Names<'a> {
     fn number_of(self, key: u16) -> u16
         ensures { result ≡ number_in self.entry.rows.now (name_of key) }
     {
-        let Some(declared) = rows::look_up(self.rows, key) else {
-            return Variable::number_of(key) as u16;
-        };
-        match declared.kind {
-            Kind::Label => Variable::number_of(key) as u16,
-            Kind::Variable => (Variable::FIRST_USER as u16) + (declared.place as u16),
+        let row = rows::look_up(self.rows, key);
+        if row.kind == rows::VARIABLE {
+            return (Variable::FIRST_USER as u16) + (row.place as u16);
         }
+        Variable::number_of(key) as u16
     }
 
     // The place of the label with this key: how many cells stand before it; 0 where no line declares the name.
@@ -38,10 +36,7 @@ impl<'a> Names<'a> {
     pub fn place_of(self, key: u16) -> u16
         ensures { result ≡ place_in self.entry.rows.now (name_of key) }
     {
-        match rows::look_up(self.rows, key) {
-            Some(declared) => declared.place as u16,
-            None => 0,
-        }
+        rows::look_up(self.rows, key).place as u16
     }
 
     fn resolve_target(self, target: u16) -> u16
