@@ -9,7 +9,7 @@ use native.Mathlib.Omega.{arith}
 use borrow.Author.Tests.{eq-eqb, ne_eqb}
 use lib.Dec.{eqb}
 use lib.ListN.{length, get_or, drop, length-append}
-use lib.Seq.{drop-drop, sets}
+use lib.Seq.{drop-drop, sets, length-sets}
 use mir.Val.{bool_byte}
 use Rattle.numbers.specs.Bytes.{bytes, field}
 use Rattle.numbers.specs.Tests.{passing}
@@ -140,18 +140,20 @@ module _ (first second : List ℕ) where
 
   pub write_more : (end k at : ℕ) (list : List ℕ) {list₁ : List ℕ} {sum next : ℕ} → k < end → sum ≡ sum_at first second k
       → next ≡ at + weight (eqb sum 0) 8 → list₁ ≡ sets list at (cond (eqb sum 0) [] (entry_bytes k sum))
-      → sets list₁ next (left end (k + 1)) ≡ sets list at (left end k)
+      → (sets list₁ next (left end (k + 1)) ≡ sets list at (left end k)) × (length list₁ ≡ length list)
   unfolding weight flat_map
-  write_more end k at list {list₁} {sum} {next} h es en el =
-      if_same sum 0
-      (λ z.
-      let e : next ≡ at = en ∙ rw (eq-eqb sum 0 z) (omega arith) in
-      let l : list₁ ≡ list = el ∙ rw (eq-eqb sum 0 z) refl in
-      rw (e, l, rest_same end k h (sym es ∙ z)) refl)
-      (λ o.
-      let e : next ≡ at + 8 = en ∙ rw (ne_eqb sum 0 o) refl in
-      let l : list₁ ≡ sets list at (entry_of first second k) = el ∙ rw (ne_eqb sum 0 o, es) refl in
-      rw (e, l, rest_other end k h (λ z. o (es ∙ z)), sets_append (entry_of first second k) list at (left end (k + 1)), entry_length first second k) refl)
+  write_more end k at list {list₁} {sum} {next} h es en el = (
+    if_same sum 0
+        (λ z.
+        let e : next ≡ at = en ∙ rw (eq-eqb sum 0 z) (omega arith) in
+        let l : list₁ ≡ list = el ∙ rw (eq-eqb sum 0 z) refl in
+        rw (e, l, rest_same end k h (sym es ∙ z)) refl)
+        (λ o.
+        let e : next ≡ at + 8 = en ∙ rw (ne_eqb sum 0 o) refl in
+        let l : list₁ ≡ sets list at (entry_of first second k) = el ∙ rw (ne_eqb sum 0 o, es) refl in
+        rw (e, l, rest_other end k h (λ z. o (es ∙ z)), sets_append (entry_of first second k) list at (left end (k + 1)), entry_length first second k) refl),
+    ap length el ∙ length-sets list at (cond (eqb sum 0) [] (entry_bytes k sum)),
+  )
 
   pub write_end : (end k at : ℕ) (list : List ℕ) {whole : List ℕ} → end ≤ k → sets list at (left end k) ≡ whole → list ≡ whole
   write_end end k at list h i = sym (ap (sets list at) (left_none end k h)) ∙ i

@@ -82,6 +82,9 @@ enum Refusal {
     ShortBuffer = 45,
 }
 
+// The number that tells of a value out of its range.
+pub const OUT_OF_RANGE: u8 = Refusal::OutOfRange as u8;
+
 impl Settings {
     // What a fresh state has.
     pub fn fresh() -> Settings

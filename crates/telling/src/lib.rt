@@ -52,22 +52,31 @@ pub fn key(line: Line, key: u16) -> Line {
     }
 }
 
-// The line for a number of a kind, as `error 102: ..`; or only what stands behind its colon. Nothing where there is none.
-pub fn words(line: Line, kind: Kind, n: u32) -> Line {
-    line.bytes(words::line_for(kind, n).unwrap_or("").as_bytes())
+// The line for a number of a kind, as `error 102: ..`; or only what stands behind its colon. Nothing where there is none, and for no kind.
+pub fn words<K: Into<Option<Kind>>>(line: Line, kind: K, n: u32) -> Line {
+    match kind.into() {
+        Some(kind) => line.bytes(words::line_for(kind, n).unwrap_or("").as_bytes()),
+        None => line,
+    }
 }
 
-pub fn meaning(line: Line, kind: Kind, n: u32) -> Line {
-    line.bytes(words::meaning_for(kind, n).unwrap_or("").as_bytes())
+pub fn meaning<K: Into<Option<Kind>>>(line: Line, kind: K, n: u32) -> Line {
+    match kind.into() {
+        Some(kind) => line.bytes(words::meaning_for(kind, n).unwrap_or("").as_bytes()),
+        None => line,
+    }
 }
 
-// A part of what the tool says.
-pub fn part(line: Line, part: Part) -> Line {
-    meaning(line, Kind::Part, part as u32)
+// A part of what the tool says; nothing for no part.
+pub fn part<P: Into<Option<Part>>>(line: Line, part: P) -> Line {
+    match part.into() {
+        Some(part) => meaning(line, Kind::Part, part as u32),
+        None => line,
+    }
 }
 
 // Such a part, and a number.
-pub fn part_number(line: Line, said: Part, value: u64) -> Line {
+pub fn part_number<P: Into<Option<Part>>>(line: Line, said: P, value: u64) -> Line {
     part(line, said).number(value)
 }
 

@@ -13,7 +13,7 @@ pub loop-k-preserved : goal.loop-k-preserved
 loop-k-preserved c =
     let l = c.loop-k in
     let e = c.write_entry-at.ensures in (
-      write_more _ _ _ l.k l.at l.list c.loop-k-test.true c.sum_at.ensures e.0 e.1 ∙ l.invariant.0,
+      (write_more _ _ _ l.k l.at l.list c.loop-k-test.true c.sum_at.ensures e.0 e.1).0 ∙ l.invariant.0,
       write_next _ l.at l.k e.0 l.invariant.1,
     )
 
