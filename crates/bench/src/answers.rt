@@ -126,7 +126,8 @@ fn place_of(place: Place) -> StatePlace
     }
 }
 
-// All eight return places.
+// All eight return places. Not inlined: in a run the compiler would take a machine's places apart, since each is read here at a fixed place, and calls would take longer.
+#[inline(never)]
 fn places_of(places: Places) -> [StatePlace; 8]
     ensures { result ≡ map state_place_of places.all }
 {
