@@ -174,6 +174,11 @@ fn record(mut line: Line, record: Event) -> Line {
 
 // How many bytes are no longer the filler, where there are any.
 pub fn changed(line: Line, values: &[u8]) -> Line {
-    let count = values.iter().filter(|b| **b != FILLER).count();
-    part(line, "changed", count as u64, 0)
+    let mut count: u64 = 0;
+    for b in values {
+        if *b != FILLER {
+            count += 1;
+        }
+    }
+    part(line, "changed", count, 0)
 }

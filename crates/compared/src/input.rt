@@ -100,20 +100,23 @@ pub struct Given {
 }
 
 impl Given {
-    // What the lines of a case make, with the blocks among all lines.
-    pub fn by(lines: &[&[u8]], all: &[&[u8]]) -> Result<Given, Broken> {
-        let mut given = Given {
+    pub fn empty() -> Given {
+        Given {
             text: Page::empty(),
             events: Page::empty(),
-        };
+        }
+    }
+
+    // Adds what the lines of a case make, with the blocks among all lines.
+    pub fn fill(&mut self, lines: &[&[u8]], all: &[&[u8]]) -> Result<(), Broken> {
         for line in lines {
             if Kind::of(line) == Kind::From {
-                given.add_block(rest(line), all)?;
+                self.add_block(rest(line), all)?;
             } else {
-                given.add(line)?;
+                self.add(line)?;
             }
         }
-        Ok(given)
+        Ok(())
     }
 
     // Adds the lines of the block of that name, but for its events.
@@ -148,16 +151,12 @@ impl Given {
 
     // A place, and the bytes that replace those from there on. They have to lie within.
     fn edit(&mut self, said: &[u8]) -> Result<(), Broken> {
-        let line = hex(rest(said)).unwrap_or(wrong());
+        let line = hex(rest(said)).unwrap_or_else(|_| wrong());
         let start = number(said, 0) as usize;
-        let end = start.saturating_add(line.len());
-        let before = self.text;
-        if before.len() < end {
+        if self.text.len() < start.saturating_add(line.len()) {
             return Err(Broken);
         }
-        self.text.cut(start);
-        self.text.add(line.held());
-        self.text.add(parts::back(before.held(), end));
+        self.text.write_at(start, line.held());
         Ok(())
     }
 

@@ -76,9 +76,10 @@ fn is_answer(line: &[u8], behind: &[&[u8]]) -> bool {
 }
 
 // The answer to a call on what lines give.
-fn answered(call: &[u8], given: &[&[u8]], all: &[&[u8]]) -> Line {
-    match Given::by(given, all) {
-        Ok(given) => answers::answer(call, &given),
+fn answered(call: &[u8], lines: &[&[u8]], all: &[&[u8]]) -> Line {
+    let mut given = Given::empty();
+    match given.fill(lines, all) {
+        Ok(()) => answers::answer(call, &given),
         Err(_) => Line::empty(),
     }
 }

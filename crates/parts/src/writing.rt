@@ -2,6 +2,7 @@
 // left out.
 ghost use Rattle.std.specs.Prelude.{◌≡◌, ◌≤◌, ◌==◌, ◌∷◌, [], ⊤, take, length};
 ghost use Rattle.parts.specs.Added.{held_by, added};
+ghost use Rattle.std.proofs.lemmas.List.Edits.{sets};
 
 use crate::Text;
 use std::fmt::{self, Write};
@@ -58,6 +59,16 @@ impl<const ROOM: usize> Text<ROOM> {
         ensures { held_by self.new ≡ [] }
     {
         self.held = 0;
+    }
+
+    // Puts bytes in place of those from a place on. What falls past the end is not written.
+    pub fn write_at(&mut self, at: usize, values: &[u8])
+        ensures { held_by self.new ≡ sets (held_by self.old) at values.now }
+    {
+        let end = at.saturating_add(values.len()).min(self.held);
+        for i in at..end {
+            self.bytes[i] = values[i - at];
+        }
     }
 
     // Adds a byte behind.
