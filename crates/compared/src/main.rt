@@ -32,7 +32,8 @@ impl Count {
 // Writes what is said of a case.
 fn say<W: Write>(output: &mut W, name: &[u8], said: &str) -> io::Result<()> {
     output.write_all(name)?;
-    writeln!(output, ": {said}")
+    let said = Line::empty().bytes(b": ").bytes(said.as_bytes()).end();
+    output.write_all(said.held())
 }
 
 // Writes the line of a case, and answers whether it agrees. What was got is told where it does not.

@@ -62,6 +62,7 @@ impl<const ROOM: usize> Text<ROOM> {
     }
 
     // Puts bytes in place of those from a place on. What falls past the end is not written.
+    // Stays: by `iter_mut`, `skip` and `zip` it is no plainer: the same two places, behind three adapters.
     pub fn write_at(&mut self, at: usize, values: &[u8])
         ensures { held_by self.new ≡ sets (held_by self.old) at values.now }
     {

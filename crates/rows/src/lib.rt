@@ -11,7 +11,7 @@ use program::names;
 // What the first line that declares a name makes of it: its kind; the number of that line, from 1; and for a label the cells, for a variable
 // the variables in front of it.
 // Stays: three numbers, whatever they are, make a row: `row_at` and `enter` (specs/Rows.antt) keep one of any kind and hand it back.
-#[derive(Clone, Copy, PartialEq, Eq, PartialOrd, Ord, Hash, Debug)]
+#[derive(Clone, Copy, PartialEq, Eq, PartialOrd, Ord, Hash, Debug, Default)]
 pub struct Row {
     pub kind: usize,
     pub line: usize,

@@ -10,6 +10,8 @@ mod runs;
 pub mod state;
 pub mod trace;
 
+pub use hints::{Found, Hint};
+
 use parts::{Line, Page};
 use words::{Kind, Part};
 
