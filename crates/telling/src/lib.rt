@@ -11,7 +11,6 @@ pub mod state;
 pub mod trace;
 
 pub use hints::{Found, Hint};
-
 use parts::{Line, Page};
 use words::{Kind, Part};
 
