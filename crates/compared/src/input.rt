@@ -107,9 +107,9 @@ impl Given {
         }
     }
 
-    // Adds what the lines of a case make, with the blocks among all lines.
-    pub fn fill(&mut self, lines: &[&[u8]], all: &[&[u8]]) -> Result<(), Broken> {
-        for line in lines {
+    // Adds what the lines of a case make up to its call, with the blocks among all lines.
+    pub fn fill(&mut self, lines: &[u8], all: &[u8]) -> Result<(), Broken> {
+        for line in text::lines_of(lines).take_while(|line| !Kind::of(line).ends_text()) {
             if Kind::of(line) == Kind::From {
                 self.add_block(rest(line), all)?;
             } else {
@@ -120,8 +120,9 @@ impl Given {
     }
 
     // Adds the lines of the block of that name, but for its events.
-    fn add_block(&mut self, name: &[u8], all: &[&[u8]]) -> Result<(), Broken> {
-        let behind = all.iter().skip_while(|line| !is_block(line, name)).skip(1);
+    fn add_block(&mut self, name: &[u8], all: &[u8]) -> Result<(), Broken> {
+        let lines = text::lines_of(all);
+        let behind = lines.skip_while(|line| !is_block(line, name)).skip(1);
         for line in behind.take_while(|line| !Kind::of(line).ends_text()) {
             let (_, said) = repeated(line);
             if !Kind::of(said).is_of_events() {
@@ -139,13 +140,10 @@ impl Given {
         match kind {
             Kind::Silent => Ok(()),
             Kind::Unknown => Err(Broken),
-            Kind::Event => repeat(&mut self.events, event(said), times),
-            Kind::Raw => repeat(&mut self.events, hex(said)?, times),
-            Kind::Line => repeat(&mut self.text, Line::empty().bytes(said).end(), times),
-            Kind::Part => repeat(&mut self.text, Line::empty().bytes(said), times),
             Kind::At => self.edit(said),
             Kind::Translated => self.translate(),
-            _ => repeat(&mut self.text, hex(said)?, times),
+            Kind::Event | Kind::Raw => repeat(&mut self.events, bytes_of(kind, said)?, times),
+            _ => repeat(&mut self.text, bytes_of(kind, said)?, times),
         }
     }
 
@@ -170,6 +168,17 @@ impl Given {
         self.text.clear();
         self.text.add(parts::front(&image, answer.length));
         Ok(())
+    }
+}
+
+// The bytes that a line of a kind says. Not inlined: the compiler clears a line for each of these cases, and an edit needs none of them.
+#[inline(never)]
+fn bytes_of(kind: Kind, said: &[u8]) -> Result<Line, Broken> {
+    match kind {
+        Kind::Event => Ok(event(said)),
+        Kind::Line => Ok(Line::empty().bytes(said).end()),
+        Kind::Part => Ok(Line::empty().bytes(said)),
+        _ => hex(said),
     }
 }
 

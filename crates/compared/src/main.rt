@@ -48,19 +48,13 @@ fn told<W: Write>(output: &mut W, name: &[u8], got: Line, wanted: &[u8]) -> io::
 }
 
 // Tries the case of this name by the lines behind its head: its text and events, its call, and the answer, which stands on the line behind.
-fn tried<W: Write>(
-    output: &mut W,
-    name: &[u8],
-    lines: &[&[u8]],
-    all: &[&[u8]],
-) -> io::Result<bool> {
-    let end = lines.iter().position(|line| Kind::of(line).ends_text());
-    let (given, asked) = lines.split_at(end.unwrap_or(lines.len()));
-    match asked {
-        [call, wanted, behind @ ..] if is_answer(wanted, behind) => told(
+fn tried<W: Write>(output: &mut W, name: &[u8], behind: &[u8], all: &[u8]) -> io::Result<bool> {
+    let mut asked = text::lines_of(behind).skip_while(|line| !Kind::of(line).ends_text());
+    match (asked.next(), asked.next(), asked.next()) {
+        (Some(call), Some(wanted), next) if is_answer(wanted, next) => told(
             output,
             name,
-            answered(call, given, all),
+            answered(call, behind, all),
             input::rest(wanted),
         ),
         _ => {
@@ -71,13 +65,13 @@ fn tried<W: Write>(
 }
 
 // The line is an answer, and the last of its case.
-fn is_answer(line: &[u8], behind: &[&[u8]]) -> bool {
-    let is_last = behind.first().is_none_or(|line| Kind::of(line).ends_case());
+fn is_answer(line: &[u8], next: Option<&[u8]>) -> bool {
+    let is_last = next.is_none_or(|line| Kind::of(line).ends_case());
     is_last & (Kind::of(line) == Kind::Gives)
 }
 
-// The answer to a call on what lines give.
-fn answered(call: &[u8], lines: &[&[u8]], all: &[&[u8]]) -> Line {
+// The answer to a call on what the lines before it give.
+fn answered(call: &[u8], lines: &[u8], all: &[u8]) -> Line {
     let mut given = Given::empty();
     match given.fill(lines, all) {
         Ok(()) => answers::answer(call, &given),
@@ -86,12 +80,18 @@ fn answered(call: &[u8], lines: &[&[u8]], all: &[&[u8]]) -> Line {
 }
 
 // Tries every case.
-fn tally<W: Write>(output: &mut W, all: &[&[u8]]) -> io::Result<Count> {
+// Stays: what stands behind a line is asked for with it, and an iterator of the lines has them alone; a list of all of them takes more room than the input.
+fn tally<W: Write>(output: &mut W, all: &[u8]) -> io::Result<Count> {
     let mut count = Count::default();
-    for (i, line) in all.iter().enumerate() {
+    let mut at = 0;
+    while at < all.len() {
+        let span = text::line_at(all, at);
+        let line = parts::between(all, at, span.end);
         if Kind::of(line) == Kind::Case {
-            count = count.with(tried(output, input::rest(line), &all[i + 1..], all)?);
+            let behind = parts::back(all, span.next);
+            count = count.with(tried(output, input::rest(line), behind, all)?);
         }
+        at = span.next;
     }
     Ok(count)
 }
@@ -99,7 +99,6 @@ fn tally<W: Write>(output: &mut W, all: &[&[u8]]) -> io::Result<Count> {
 fn main(rt: HostRuntime) -> io::Result<()> {
     let mut input = Vec::new(rt.alloc());
     rt.stdin().take(ROOM).read_to_end(&mut input)?;
-    let lines: Vec<&[u8]> = text::lines_of(&input).collect(rt.alloc())?;
-    let Count { agreeing, all } = tally(&mut rt.stdout(), &lines)?;
+    let Count { agreeing, all } = tally(&mut rt.stdout(), &input)?;
     println!(rt; "{agreeing} of {all} agree")
 }
